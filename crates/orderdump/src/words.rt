@@ -183,7 +183,7 @@ pub enum Stop {
 }
 
 /// The end that a fault of the reader makes.
-pub fn stop_of(script: &[u8], fault: ReadFault) -> Stop {
+pub(crate) fn stop_of(script: &[u8], fault: ReadFault) -> Stop {
     match fault {
         ReadFault::UnknownKind { place } => {
             let kind = script.get(place).copied().unwrap_or(0);

@@ -1,7 +1,7 @@
 // Answers: what a ledger or a run says of an order.
 
 /// The layer of the ledger that refuses an order.
-#[derive(Clone, Copy)]
+#[derive(Clone, Copy, PartialEq, Eq, Debug)]
 pub enum Layer {
     Script = 1,
     Transactions = 2,
@@ -11,7 +11,7 @@ pub enum Layer {
 
 /// Why an order was refused: the number of the refusal, the layer that refused, the item that is
 /// meant (a dataset, a transaction, a record, ..) and an amount.
-#[derive(Clone, Copy)]
+#[derive(Clone, Copy, PartialEq, Eq, Debug)]
 pub struct Refusal {
     pub number: u8,
     pub layer: Layer,
