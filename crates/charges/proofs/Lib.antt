@@ -1,0 +1,14 @@
+pub mod Amounts
+pub mod Sums
+pub mod Paths
+pub mod Charge
+pub mod Edits
+pub mod Local
+pub mod Moved
+pub mod Limits
+pub mod Walks
+pub mod Rises
+pub mod Falls
+pub mod Bounds
+pub mod News
+pub mod Spreads
