@@ -1,0 +1,14 @@
+pub mod Entries
+pub mod Counts
+pub mod Rows
+pub mod Falls
+pub mod Accepted
+pub mod Edits
+pub mod Shapes
+pub mod Balanced
+pub mod Accounts
+pub mod Sizes
+pub mod Finds
+pub mod Proper
+pub mod LawfulEntries
+pub mod Journals

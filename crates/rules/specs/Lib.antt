@@ -1,0 +1,11 @@
+pub mod Figures
+pub mod Book
+pub mod Answers
+pub mod Effects
+pub mod Holders
+pub mod Marks
+pub mod Journal
+pub mod Law
+pub mod Theorems
+pub mod Invariant
+pub mod Worked
