@@ -52,7 +52,7 @@ fair-replay F (e ∷ older) sane obeyed =
     (subst (λ (us : List Bool). Fair F (replay F older .book) (replay F older .holders) us) (sym (o .chained)) (fair-replay F older sane (obeyed .1)))
     (o .answered) (o .moved)
 
-lawful-state : (F : Figures) (b : Book) (hs : List Holder) (us : List Bool) → Fair F b hs us → LawfulState F b hs us
+pub lawful-state : (F : Figures) (b : Book) (hs : List Holder) (us : List Bool) → Fair F b hs us → LawfulState F b hs us
 lawful-state F b hs us fair = record { within-limits = fair .shaped .within; units-accounted-for = fair .accounted }
 
 pub law-holds : LawHolds

@@ -12,3 +12,4 @@ pub mod Finds
 pub mod Proper
 pub mod LawfulEntries
 pub mod Journals
+pub mod Standings

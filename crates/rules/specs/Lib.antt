@@ -8,4 +8,5 @@ pub mod Journal
 pub mod Law
 pub mod Theorems
 pub mod Invariant
+pub mod Standing
 pub mod Worked
