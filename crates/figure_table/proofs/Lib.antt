@@ -1,0 +1,3 @@
+-- Lemmas of this crate's proofs.
+mod Words
+mod Readings

@@ -1,0 +1,4 @@
+use Rattle.pooltests.proofs.tests.fill.Given as given
+
+abbrev pub Inv-loop : given.InvT-loop
+Inv-loop g l = g .A·Allocator .wellmade (l .pool)
