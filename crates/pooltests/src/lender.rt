@@ -1,13 +1,17 @@
 // What a caller knows of the memory that it lent, once the allocator over it is gone.
 ghost use denote.Ref.{now};
-ghost use lib.ListN.{set};
+ghost use lib.ListN.{set, replicate};
+ghost use mathlib.Core.Bool.{false};
 ghost use mathlib.Core.List.{[]};
 ghost use mathlib.Core.Path.{_≡_};
 ghost use Rattle.pool.specs.Faults.{ground};
 ghost use Rattle.pool.specs.Links.{chained};
-ghost use Rattle.pool.specs.Marks.{cleared, turned};
+ghost use Rattle.pool.specs.Marks.{cleared, marks, turned};
+ghost use Rattle.pool.specs.Batches.{Takes};
 ghost use Rattle.std.specs.Results.{Cases};
+ghost use Rattle.std.specs.Vec.{made};
 use pool::allocator::AllocatorFault;
+use pool::batch::take_exact;
 use pool::bitmap::Bitmap;
 use pool::bitmap::BitmapAllocator;
 use pool::chain::Chain;
@@ -35,4 +39,15 @@ pub fn unlink_first(size: usize, links: &mut [u16]) -> Result<u16, AllocatorFaul
     Chain::check(size, links)?;
     let mut chain = Chain::make(size, links);
     chain.take()
+}
+
+/// Lists units of a new bitmap by generic code, and lets the bitmap go: what the memory holds beside the units is as it was,
+/// and where the list is filled, the units whose bits are set are those of the list.
+pub fn list_bits(size: usize, memory: &mut [u8], list: &mut [u16]) -> Result<(), AllocatorFault>
+    ensures { λ r. ⌜ (cleared (now (memory .exit)) size ≡ cleared (now (memory .entry)) size)
+        × made r (λ _. Takes (replicate size false) (now (list .exit)) (marks (now (memory .exit)) size)) ⌝ }
+{
+    Bitmap::check(size, memory)?;
+    let mut bits = Bitmap::make(size, memory);
+    take_exact(&mut bits, list)
 }

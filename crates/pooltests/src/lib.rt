@@ -191,6 +191,10 @@ mod tests {
         let mut memory = [0xffu8; 3];
         check_eq(lender::mark_first(9, &mut memory), Ok(0))?;
         check_eq(memory, [0x01, 0xfe, 0xff])?;
+        let mut list = [0u16; 3];
+        check_eq(lender::list_bits(9, &mut memory, &mut list), Ok(()))?;
+        check_eq(list, [0, 1, 2])?;
+        check_eq(memory, [0x07, 0xfe, 0xff])?;
         let mut links = [7u16; 4];
         check_eq(lender::unlink_first(3, &mut links), Ok(0))?;
         check_eq(links, [NO_UNIT, 2, 3, 7])

@@ -13,7 +13,7 @@ use Rattle.charges.specs.declared.Row.{Row}
 use Rattle.charges.specs.Amounts.{reweighed}
 use Rattle.charges.specs.Tree.{blank, row, Rooted, charge, WithinLimits, path, withOwn, withReservation, withQuota}
 use Rattle.charges.specs.Keep.{Keeps, spread}
-use Rattle.charges.proofs.Edits.{shape-law, own-set, own-reservation, own-quota, reservation-edited, reservation-set, reservation-quota, quota-set, quota-elsewhere, quota-reservation}
+use Rattle.charges.proofs.Edits.{shape-law, own-reservation, own-quota, reservation-edited, reservation-set, reservation-quota, quota-set, quota-elsewhere, quota-reservation}
 use Rattle.charges.proofs.Charge.{charge-equation}
 use Rattle.charges.proofs.Bounds.{bound-law}
 use Rattle.charges.proofs.Limits.{limit-law}

@@ -2,7 +2,7 @@
 use mathlib.Core.Path.{_≡_, refl, sym, ap, subst, _∙_}
 use mathlib.Core.Bool.{true}
 use mathlib.Core.Logic.{_≢_}
-use mathlib.Core.List.{List, [], _∷_, _++_}
+use mathlib.Core.List.{[], _∷_, _++_}
 use Prim.Native.Nat.{ℕ, _+_, _<_, _≤_, _^_}
 use native.Mathlib.Omega.{arith}
 use lib.IntN.{ℤ, pos, _-ℤ_}
@@ -10,8 +10,8 @@ use lib.ListN.{length, getD, set, take}
 use Rattle.std.proofs.shelf.Lists.{length-set, take-more-set, getD-append-left, length-take-le}
 use Rattle.charges.specs.declared.Row.{Row}
 use Rattle.charges.specs.Amounts.{reweighed}
-use Rattle.charges.specs.Tree.{blank, row, Rooted, charge, WithinLimits, path, withOwn, withReservation, withQuota}
-use Rattle.charges.specs.Keep.{Keeps, spread}
+use Rattle.charges.specs.Tree.{blank, row, Rooted, charge, WithinLimits, path, withOwn, withReservation}
+use Rattle.charges.specs.Keep.{spread}
 use Rattle.rules.specs.declared.state.Kind.{Kind}
 use Rattle.rules.specs.declared.state.Kind.the-variants.{Folder}
 use Rattle.tree.specs.Fields.{Sized, Kept, InQuotas, FreeRoot, isFolder}

@@ -1,11 +1,9 @@
 -- What the checks of a call establish for the write that follows.
-use mathlib.Core.Path.{_≡_, refl, sym, ap, subst, _∙_}
-use mathlib.Core.List.{List}
+use mathlib.Core.Path.{_≡_, sym, ap, _∙_}
 use Prim.Native.Nat.{ℕ, _+_, _-_, _<_, _≤_, _^_}
 use native.Mathlib.Omega.{arith}
 use lib.IntN.{ℤ, pos}
 use lib.ListN.{length}
-use Rattle.std.specs.declared.option.Option.{Option}
 use Rattle.std.specs.declared.option.Option.the-variants.{Some, None}
 use Rattle.charges.specs.declared.Row.{Row}
 use Rattle.charges.specs.Amounts.{reweighed}
@@ -18,7 +16,7 @@ use Rattle.charges.proofs.Rises.{excess-law}
 use Rattle.tree.specs.declared.Tree.{Tree}
 use Rattle.tree.specs.Parts.{roomOf, rowsOf, chargesOf}
 use Rattle.tree.specs.Answers.{reservationWalk}
-use Rattle.tree.proofs.Fine.{fine, own-in, fine-own, Fine}
+use Rattle.tree.proofs.Fine.{fine, own-in, fine-own}
 
 module _ (t : Tree) (d units : ℕ) (l : d < length (rowsOf t)) where
   pub raise-fits : (k : ℤ) → k ≡ pos units → units < 2 ^ 16 → (e s : ℕ) → walk (roomOf t) (rowsOf t) d k ≡ Some (e, s) → s < 2 ^ 16
@@ -36,6 +34,12 @@ module _ (t : Tree) (d units : ℕ) (l : d < length (rowsOf t)) where
 
 pub lower-within : (t : Tree) (d x : ℕ) → d < length (rowsOf t) → x ≤ row (rowsOf t) d .own → WithinLimits (roomOf t) (withOwn (rowsOf t) d x)
 lower-within t d x l le = fall-law .by-own (roomOf t) (rowsOf t) d x (t .rooted) (t .within) l le
+
+-- the change of the weight, by the row and the charge that were read
+pub weighs : (t : Tree) (d units : ℕ) (r : Row) (x : ℕ) (z k : ℤ) → r ≡ row (rowsOf t) d → x ≡ charge (rowsOf t) d → z ≡ reweighed x (r .reservation) units → k ≡ z →
+    k ≡ reweighed (charge (rowsOf t) d) (row (rowsOf t) d .reservation) units
+weighs t d units r x z k is-row is-charge e same =
+    same ∙ e ∙ ap (λ n. reweighed n (r .reservation) units) is-charge ∙ ap (λ (q : Row). reweighed (charge (rowsOf t) d) (q .reservation) units) is-row
 
 module _ (t : Tree) (d units p : ℕ) (k : ℤ) (l : d < length (rowsOf t)) (gt : 0 < d) (parent : p ≡ row (rowsOf t) d .parent)
     (is : k ≡ reweighed (charge (rowsOf t) d) (row (rowsOf t) d .reservation) units) where

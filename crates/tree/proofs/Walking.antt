@@ -1,5 +1,5 @@
 -- The walk as a loop meets it: the walk from where it stands answers as the whole one.
-use mathlib.Core.Path.{_≡_, refl, sym, ap, subst, _∙_}
+use mathlib.Core.Path.{_≡_, sym, ap, subst, _∙_}
 use mathlib.Core.List.{List}
 use Prim.Native.Nat.{ℕ, _<_, _≤_}
 use native.Mathlib.Omega.{arith}
@@ -8,12 +8,12 @@ use lib.ListN.{length}
 use Rattle.std.specs.declared.option.Option.{Option}
 use Rattle.std.specs.declared.option.Option.the-variants.{Some, None}
 use Rattle.charges.specs.declared.Row.{Row}
-use Rattle.charges.specs.Amounts.{limitOf, excess, passed, changed}
+use Rattle.charges.specs.Amounts.{excess, passed, changed}
 use Rattle.charges.specs.Tree.{row, Rooted, charge, limit}
 use Rattle.charges.specs.Walk.{walk}
 use Rattle.charges.proofs.Walks.{walk-stops, walk-goes-on, walk-ends}
 use Rattle.tree.specs.Steps.{shortOf, onwardFrom}
-use Rattle.tree.proofs.Settling.{Onward, goes-on, stops}
+use Rattle.tree.proofs.Settling.{goes-on, stops}
 
 pub record Walking (room : ℕ) (rows : List Row) (answer : Option (ℕ × ℕ)) (d : ℕ) (c : ℤ) : Type 0 where
   pub inside : d < length rows

@@ -1,10 +1,9 @@
 -- The root alone: nothing is charged.
-use mathlib.Core.Path.{_≡_, refl, ap}
+use mathlib.Core.Path.{_≡_, refl}
 use Prim.Native.Nat.{ℕ, zero, suc, _<_}
 use native.Mathlib.Omega.{arith}
-use mathlib.Core.List.{List, [], _∷_}
-use lib.ListN.{length, getD}
-use Rattle.charges.specs.declared.Row.{Row}
+use mathlib.Core.List.{[], _∷_}
+use lib.ListN.{getD}
 use Rattle.charges.specs.Tree.{blank, charge, load, Within}
 use Rattle.tree.proofs.Tree.make.Needs as need
 

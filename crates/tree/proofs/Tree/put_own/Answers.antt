@@ -1,6 +1,5 @@
 -- The change that is put in brings the kept charges to the edited rows.
-use mathlib.Core.Path.{_≡_, refl, sym, ap, _∙_}
-use native.Mathlib.Omega.{arith}
+use mathlib.Core.Path.{refl, ap, _∙_}
 use borrow.Author.Needs.{needs}
 use lib.IntN.{ℤ, pos, _-ℤ_}
 use mir.Val.{SFits, toZ, ofZ}
@@ -8,7 +7,6 @@ use mir.Syntax.{w32}
 use Rattle.std.proofs.shelf.Signed.{toZ-ofZ}
 use Rattle.charges.specs.declared.Row.{Row}
 use Rattle.charges.specs.Tree.{row}
-use Rattle.tree.specs.Parts.{rowsOf}
 use Rattle.tree.proofs.Ghosts.{own-fits, own-ghosts, edited-rows, edited-kinds, putOwn}
 use Rattle.tree.proofs.Tree.put_own.Needs as need
 
