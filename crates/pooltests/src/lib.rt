@@ -173,17 +173,22 @@ mod tests {
         let mut list = [0u16; 40];
         let mut bits = [0xffu8; 2];
         let mut links = [0u16; 9];
-        let mut more = [0u16; 1];
+        let mut more_bits = [0u8; 1];
+        let mut more_links = [0u16; 1];
         let first = Joined::make(Bitmap::make(9, &mut bits), Chain::make(8, &mut links));
-        let second = Chain::make(1, &mut more);
+        let second = Joined::make(
+            Bitmap::make(2, &mut more_bits),
+            Chain::make(1, &mut more_links),
+        );
         let mut pool = Joined::make(first, second);
         at_once(&mut pool, &mut list)?;
         let (mut first, mut second) = pool.parts();
         check_eq(first.size(), 17)?;
         check_eq(first.give(16), Ok(()))?;
         check_eq(first.give(17), Err(AllocatorFault::NotOut { unit: 17 }))?;
-        check_eq(second.give(0), Ok(()))?;
-        check_eq(second.take(), Ok(0))
+        check_eq(second.size(), 3)?;
+        check_eq(second.give(2), Ok(()))?;
+        check_eq(second.take(), Ok(2))
     }
 
     #[test]
