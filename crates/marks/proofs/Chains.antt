@@ -1,16 +1,16 @@
 -- The links of one holder's units: a unit comes to its head or leaves from there, and a unit of others is moved.
-use Prim.Native.Nat.{ℕ, zero, suc, _+_, _*_, _<_, _≤_}
+use Prim.Native.Nat.{ℕ, _<_, _≤_}
 use native.Mathlib.Omega.{arith}
 use mathlib.Core.Path.{_≡_, refl, sym, ap, subst, _∙_}
 use mathlib.Core.Logic.{inl, inr}
 use mathlib.Core.Bool.{Bool, true, false}
 use mathlib.Core.List.{List, [], _∷_}
 use lib.ListN.{length, getD, set}
-use Rattle.std.proofs.shelf.Lists.{length-set, getD-set-same, getD-set-other, set-getD}
+use Rattle.std.proofs.shelf.Lists.{getD-set-same, getD-set-other}
 use Rattle.std.proofs.shelf.Tests.{cases-eq, cases-bool, true≢false}
 use Rattle.pool.specs.Links.{Apart, Among, Threads}
 use Rattle.rules.specs.declared.state.Holder.{Holder}
-use Rattle.rules.specs.declared.state.Holder.the-variants.{Nobody, Record, Deferred}
+use Rattle.rules.specs.declared.state.Holder.the-variants.{Nobody}
 use Rattle.marks.specs.Linked.{Chained}
 
 low : (ls : List ℕ) (n h : ℕ) (xs : List ℕ) → Threads ls n h xs → h ≤ n

@@ -6,15 +6,14 @@ use mathlib.Core.Bool.{Bool, true, false}
 use mathlib.Core.List.{List, [], _∷_}
 use lib.ListN.{length, getD, take, replicate}
 use Rattle.std.proofs.shelf.Lists.{length-replicate, getD-replicate}
-use Rattle.std.proofs.shelf.Sums.{sumBy-cons}
 use Rattle.std.proofs.shelf.Tests.{true≢false}
 use Rattle.pool.specs.Units.{outs}
 use Rattle.rules.specs.Holders.{same, isHeld, isDeferred}
 use Rattle.rules.specs.declared.state.Holder.{Holder}
-use Rattle.rules.specs.declared.state.Holder.the-variants.{Nobody, Record, Deferred}
+use Rattle.rules.specs.declared.state.Holder.the-variants.{Nobody, Record}
 use Rattle.marks.specs.declared.marks.Marks.{Marks}
 use Rattle.marks.specs.declared.table.Table.{Table}
-use Rattle.marks.specs.Linked.{Named, Chained, Linked, Tabled, rowsOf}
+use Rattle.marks.specs.Linked.{Named, Chained, Linked, rowsOf}
 use Rattle.marks.specs.Sound.{Sound, holdersOf}
 
 take-replicate : {X : Type 0} (n m : ℕ) (x : X) → n ≤ m → take n (replicate m x) ≡ replicate n x

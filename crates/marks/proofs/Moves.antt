@@ -1,10 +1,10 @@
 -- One unit moves: from nobody to a record, from a record to the deferred, from the deferred to nobody.
-use Prim.Native.Nat.{ℕ, zero, suc, _+_, _*_, _<_, _≤_}
+use Prim.Native.Nat.{ℕ, _+_, _*_, _<_, _≤_}
 use native.Mathlib.Omega.{arith}
 use mathlib.Core.Path.{_≡_, refl, sym, ap, subst, _∙_}
 use mathlib.Core.Logic.{inl, inr}
-use mathlib.Core.Bool.{Bool, true, false}
-use mathlib.Core.List.{List, [], _∷_}
+use mathlib.Core.Bool.{true, false}
+use mathlib.Core.List.{List}
 use lib.Dec.{eqb}
 use lib.ListN.{length, getD, set}
 use Rattle.std.proofs.shelf.Lists.{length-set, getD-set-same, getD-set-other, set-getD}
@@ -13,7 +13,7 @@ use Rattle.rules.specs.Holders.{same, isDeferred}
 use Rattle.rules.specs.declared.state.Holder.{Holder}
 use Rattle.rules.specs.declared.state.Holder.the-variants.{Nobody, Record, Deferred}
 use Rattle.marks.specs.Linked.{Named, Chained, Linked}
-use Rattle.marks.proofs.Chains.{head-own, none-own, beside, pushed, popped}
+use Rattle.marks.proofs.Chains.{head-own, beside, pushed, popped}
 
 pub same-self : (v r : ℕ) → same (Record v r) (Record v r) ≡ true
 same-self v r = and-from (eqb v v) (eqb r r) (eq-eqb v v refl) (eq-eqb r r refl)

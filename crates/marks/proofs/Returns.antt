@@ -1,15 +1,14 @@
 -- Deferred units are given back one by one.
 use Prim.Native.Nat.{ℕ, _+_, _-_, _<_, _≤_}
 use native.Mathlib.Omega.{arith}
-use mathlib.Core.Path.{_≡_, refl, sym, ap, subst, _∙_}
+use mathlib.Core.Path.{_≡_, refl, sym, ap, _∙_}
 use mathlib.Core.Logic.{inl, inr}
-use mathlib.Core.Bool.{Bool, true, false, cond, not, _&&_}
+use mathlib.Core.Bool.{Bool, true, false, not, _&&_}
 use mathlib.Core.List.{List, map}
 use lib.ListN.{length, getD, set}
 use Rattle.std.proofs.shelf.Counted.{length-map-counting, getD-map-counting}
 use Rattle.std.proofs.shelf.Lists.{length-set, getD-set-same, getD-set-other, ext-getD}
 use Rattle.std.proofs.shelf.Tests.{cases-eq, true≢false, and-left, and-right}
-use Rattle.std.specs.Iters.{counting}
 use Rattle.std.specs.shelf.Lists.{countBy}
 use Rattle.pool.specs.Units.{outs}
 use Rattle.pool.proofs.Outs.{within, outs-given}
@@ -17,7 +16,7 @@ use Rattle.rules.specs.Holders.{isHeld, isDeferred, release}
 use Rattle.rules.specs.declared.state.Holder.{Holder}
 use Rattle.rules.specs.declared.state.Holder.the-variants.{Nobody, Record, Deferred}
 use Rattle.marks.specs.declared.marks.Marks.{Marks}
-use Rattle.marks.specs.Linked.{Tabled, rowsOf}
+use Rattle.marks.specs.Linked.{Tabled}
 use Rattle.marks.specs.Sound.{Sound, returned, poolOf, holdersOf, sizeOf}
 use Rattle.marks.proofs.Chains.{none-own}
 use Rattle.marks.proofs.Rows.{moved-one, moved-none}
@@ -111,9 +110,6 @@ pub record Returning {A : Type 0} (U : A → List Bool) (k : ℕ) (m₀ m : Mark
   pub many : k + countBy isDeferred (holdersOf m) ≡ countBy isDeferred (holdersOf m₀)
   pub fewer : outs (U (poolOf m)) + k ≡ outs (U (poolOf m₀))
   pub sized : sizeOf m ≡ sizeOf m₀
-
-pub returning-start : {A : Type 0} (U : A → List Bool) (m : Marks A) → Returning U 0 m m
-returning-start U m = record { rows = refl; units = refl; many = omega arith; fewer = omega arith; sized = refl }
 
 module _ {A : Type 0} (U : A → List Bool) (W : A → Type 0) (k : ℕ) (m₀ m : Marks A) (s : Sound U W m) (w : Returning U k m₀ m) where
   pub returning-more : (m′ : Marks A) (u : ℕ) → isDeferred (getD (holdersOf m) u Nobody) ≡ true → holdersOf m′ ≡ set (holdersOf m) u Nobody → U (poolOf m′) ≡ set (U (poolOf m)) u false → sizeOf m′ ≡ sizeOf m →

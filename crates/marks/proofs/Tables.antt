@@ -3,15 +3,15 @@ use Prim.Native.Nat.{ℕ, _+_, _*_, _<_, _≤_}
 use native.Mathlib.Omega.{arith}
 use mathlib.Core.Path.{_≡_, refl, sym, ap, subst, _∙_}
 use mathlib.Core.Logic.{inl, inr}
-use mathlib.Core.Bool.{Bool, true, false, not, cond}
+use mathlib.Core.Bool.{Bool, true, false, not}
 use mathlib.Core.List.{List, map}
 use lib.Dec.{eqb}
 use lib.ListN.{length, getD, set, take}
-use Rattle.std.proofs.shelf.Lists.{length-set, length-take-le, getD-take, getD-past}
+use Rattle.std.proofs.shelf.Lists.{length-set, getD-take, getD-past}
 use Rattle.std.proofs.shelf.Sums.{countBy-le-length}
 use Rattle.std.proofs.shelf.Tests.{eqb-true, eq-eqb, cases-bool, true≢false, cond-true, cond-false}
 use Rattle.std.specs.shelf.Lists.{countBy}
-use Rattle.rules.specs.Holders.{same, count, isDeferred, defer, release}
+use Rattle.rules.specs.Holders.{same, count, isDeferred, defer}
 use Rattle.rules.specs.declared.state.Holder.{Holder}
 use Rattle.rules.specs.declared.state.Holder.the-variants.{Nobody, Record, Deferred}
 use Rattle.marks.specs.declared.table.Table.{Table}
@@ -93,9 +93,6 @@ pub record Deferring (v r k : ℕ) (t₀ t : Table) : Type 0 where
   pub rows : map (defer v r) (rowsOf t) ≡ map (defer v r) (rowsOf t₀)
   pub many : k + count (Record v r) (rowsOf t) ≡ count (Record v r) (rowsOf t₀)
   pub sized : t .size ≡ t₀ .size
-
-pub deferring-start : (v r : ℕ) (t : Table) → Tabled t → Deferring v r 0 t t
-deferring-start v r t w = record { tabled = w; rows = refl; many = omega arith; sized = refl }
 
 pub deferring-more : (v r k : ℕ) (t₀ t t′ : Table) → Deferring v r k t₀ t → v < 64 → r < 64 → (getD (t .first) (v * 64 + r) 0 ≡ t .size → ⊥) → t′ .size ≡ t .size →
     t′ .holders ≡ set (t .holders) (getD (t .first) (v * 64 + r) 0) (Deferred v) → t′ .next ≡ set (t .next) (getD (t .first) (v * 64 + r) 0) (t .deferred) →

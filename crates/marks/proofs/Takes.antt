@@ -1,19 +1,17 @@
 -- Units are taken one by one for a record.
-use Prim.Native.Nat.{ℕ, _+_, _-_, _<_, _≤_}
+use Prim.Native.Nat.{ℕ, _+_, _<_, _≤_}
 use native.Mathlib.Omega.{arith}
-use mathlib.Core.Path.{_≡_, refl, sym, ap, subst, _∙_}
+use mathlib.Core.Path.{_≡_, refl, sym, ap, _∙_}
 use mathlib.Core.Logic.{inl, inr}
-use mathlib.Core.Bool.{Bool, true, false, cond, not, _&&_}
-use mathlib.Core.List.{List, map}
+use mathlib.Core.Bool.{Bool, true, false, cond, _&&_}
+use mathlib.Core.List.{List}
 use lib.Dec.{leb, ltb}
 use lib.ListN.{length, getD, set}
 use Rattle.std.proofs.shelf.Counted.{length-map-counting, getD-map-counting}
 use Rattle.std.proofs.shelf.Lists.{length-set, getD-set-same, getD-set-other, ext-getD}
 use Rattle.std.proofs.shelf.Sums.{sumBy-set, countBy-le-length}
 use Rattle.std.proofs.shelf.Tests.{cases-eq, cases-lt, true≢false, cond-true, cond-false, and-from, and-left, and-right, lt-ltb, le-ltb, le-leb, lt-leb}
-use Rattle.std.specs.Iters.{counting}
 use Rattle.std.specs.shelf.Lists.{countBy}
-use Rattle.std.specs.declared.result.Result.{Result}
 use Rattle.std.specs.declared.result.Result.the-variants.{Ok, Err}
 use Rattle.pool.specs.declared.allocator.AllocatorFault.{AllocatorFault}
 use Rattle.pool.specs.Units.{outs, Took}
@@ -21,10 +19,9 @@ use Rattle.pool.proofs.Outs.{took-length, outs-taken, outs-all}
 use Rattle.rules.specs.Holders.{isHeld, taken, handed}
 use Rattle.rules.specs.declared.state.Holder.{Holder}
 use Rattle.rules.specs.declared.state.Holder.the-variants.{Nobody, Record, Deferred}
-use Rattle.marks.specs.declared.fault.MarksFault.{MarksFault}
 use Rattle.marks.specs.declared.fault.MarksFault.the-variants.{NoSuchRecord, AllOut}
 use Rattle.marks.specs.declared.marks.Marks.{Marks}
-use Rattle.marks.specs.Linked.{Tabled, rowsOf}
+use Rattle.marks.specs.Linked.{Tabled}
 use Rattle.marks.specs.Sound.{Sound, TookFor, Grew, takeAnswer, poolOf, holdersOf, sizeOf}
 
 pub nobody : (h : Holder) → isHeld h ≡ false → h ≡ Nobody

@@ -1,5 +1,5 @@
 -- What the marks of a pool mean, when they are sound, and what each call does to them.
-use Prim.Native.Nat.{ℕ, _+_, _<_, _≤_}
+use Prim.Native.Nat.{ℕ, _+_}
 use mathlib.Core.Path.{_≡_}
 use mathlib.Core.Bool.{Bool, true, false, cond, not, _&&_}
 use mathlib.Core.List.{List, map}
@@ -12,7 +12,7 @@ use Rattle.std.specs.declared.result.Result.the-variants.{Ok, Err}
 use Rattle.pool.specs.Units.{outs}
 use Rattle.rules.specs.Holders.{isHeld, isDeferred, handed}
 use Rattle.rules.specs.declared.state.Holder.{Holder}
-use Rattle.rules.specs.declared.state.Holder.the-variants.{Nobody, Record, Deferred}
+use Rattle.rules.specs.declared.state.Holder.the-variants.{Nobody, Record}
 use Rattle.marks.specs.declared.fault.MarksFault.{MarksFault}
 use Rattle.marks.specs.declared.fault.MarksFault.the-variants.{NoSuchRecord, AllOut}
 use Rattle.marks.specs.declared.marks.Marks.{Marks}

@@ -4,7 +4,7 @@ ghost use lib.ListN.{length, getD, set, replicate};
 ghost use mathlib.Core.Bool.{true, false};
 ghost use mathlib.Core.List.{map};
 ghost use mathlib.Core.Path.{_≡_};
-ghost use Prim.Native.Nat.{ℕ, _+_, _<_, _≤_};
+ghost use Prim.Native.Nat.{_+_, _<_};
 ghost use Rattle.marks.specs.Sound.{poolOf, holdersOf, sizeOf, Sound, returned, takeAnswer, TakeEffect};
 ghost use Rattle.pool.specs.Units.{outs, Took};
 ghost use Rattle.rules.specs.declared.state.Holder.the-variants.{Nobody, Record};

@@ -1,11 +1,11 @@
 // The table of holders, with the units of one holder linked one to the next.
 ghost use denote.Ref.{now};
-ghost use lib.ListN.{length, getD, set, replicate};
+ghost use lib.ListN.{getD, set, replicate};
 ghost use mathlib.Core.Path.{_≡_};
 ghost use mathlib.Core.Bool.{true, not};
 ghost use mathlib.Core.List.{map};
 ghost use lib.Dec.{eqb};
-ghost use Prim.Native.Nat.{ℕ, _+_, _*_, _<_, _≤_};
+ghost use Prim.Native.Nat.{_+_, _*_, _<_, _≤_};
 ghost use Rattle.rules.specs.Holders.{count, isDeferred, defer as deferOf};
 ghost use Rattle.rules.specs.declared.state.Holder.the-variants.{Nobody, Record, Deferred};
 ghost use Rattle.marks.specs.Linked.{rowsOf, Tabled};

@@ -5,7 +5,7 @@ use Rattle.std.specs.shelf.Lists.{countBy}
 use Rattle.rules.specs.Holders.{isDeferred}
 use Rattle.marks.specs.Sound.{holdersOf}
 use Rattle.marks.proofs.Tables.{few-rows, has-ended}
-use Rattle.marks.proofs.Returns.{Returning, returning-start, returning-more, returning-end}
+use Rattle.marks.proofs.Returns.{Returning, returning-more, returning-end}
 use Rattle.marks.proofs.marks.Marks.give_back.Given as given
 use Rattle.marks.proofs.marks.Marks.give_back.Needs as need
 

@@ -1,10 +1,10 @@
 use native.Mathlib.Omega.{arith}
 use mathlib.Core.Path.{_≡_, refl, sym}
-use Prim.Native.Nat.{ℕ, _+_, _<_}
+use Prim.Native.Nat.{_+_, _<_}
 use Rattle.rules.specs.Holders.{same, count}
 use Rattle.rules.specs.declared.state.Holder.the-variants.{Record}
 use Rattle.marks.specs.Linked.{rowsOf}
-use Rattle.marks.proofs.Tables.{Deferring, not-ended, has-ended, head-of, few-rows, deferring-start, deferring-more, deferring-end, deferring-none}
+use Rattle.marks.proofs.Tables.{Deferring, not-ended, has-ended, head-of, few-rows, deferring-more, deferring-end, deferring-none}
 use Rattle.marks.proofs.table.Table.defer.Needs as need
 
 pub returns-then-volume-ge64 : need.returns-then-volume-ge64

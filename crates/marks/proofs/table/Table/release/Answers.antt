@@ -1,11 +1,9 @@
 use native.Mathlib.Omega.{arith}
 use mathlib.Core.Path.{_≡_, sym, ap, subst, _∙_}
 use mathlib.Core.Bool.{true}
-use mathlib.Core.List.{List}
 use Prim.Native.Nat.{ℕ, _<_}
 use lib.ListN.{getD, set}
 use Rattle.rules.specs.Holders.{isDeferred}
-use Rattle.rules.specs.declared.state.Holder.{Holder}
 use Rattle.rules.specs.declared.state.Holder.the-variants.{Nobody}
 use Rattle.marks.specs.Linked.{rowsOf}
 use Rattle.marks.proofs.Tables.{released, head-deferred}
