@@ -20,7 +20,7 @@ within room (suc d) l = absurd (omega arith)
 pub ghost-result : need.ghost-result
 ghost-result c = (
   (omega arith, omega arith, omega arith),
-  ((refl, refl, refl), (λ k gt l. omega arith, (kept, (within (c .args .room), (λ d l some. absurd (some (one d l)), ((refl, refl, refl), tt)))))),
+  ((refl, refl, refl), (λ k gt l. omega arith, (kept, (within _, (λ d l some. absurd (some (one d l)), ((refl, refl, refl), tt)))))),
 )
   where
     one : (d : ℕ) → d < 1 → getD (blank ∷ []) d blank .quota ≡ 0
