@@ -213,8 +213,9 @@ module _ (F : Figures) (b : Book) (shaped : Shaped F b) where
         let c = shaped .datasets (volumeOf (transaction b t)) .contents in
         omega (arith, c .units-long, c .records-few)
 
-  pub shaped-write : (t r s k : ℕ) → Sane F → answer F b (write t r s) ≡ Done k → Shaped F (next F b (write t r s))
-  shaped-write t r s k sane ok =
+  -- a write that costs at most the worst
+  pub shaped-wrote : (t r s k : ℕ) → F .cost s ≤ F .worst → answer F b (write t r s) ≡ Done k → Shaped F (next F b (write t r s))
+  shaped-wrote t r s k cheap ok =
       let o = write-ok F b k t r s ok in
       let v = volumeOf (transaction b t) in
       let c = dataset b v .contents in
@@ -225,8 +226,11 @@ module _ (F : Figures) (b : Book) (shaped : Shaped F b) where
       (shaped-units (emptied c r) r (F .cost s) (shaped-emptied c r was (o .3)) (o .3)) refl (omega arith) (omega arith))
       (within-by F (next F b (write t r s)) _
       (rows-write F b t v (writesOf (transaction b t)) (freesOf (transaction b t)) (o .1) (listed t (o .0)) (there .0) r (record-listed t (o .1) r (o .3)) s
-      (o .2) (sane .bounded .within s (o .4)))
+      (o .2) cheap)
       (fewer-own v (F .worst - F .cost s) (there .0)))
+
+  pub shaped-write : (t r s k : ℕ) → Sane F → answer F b (write t r s) ≡ Done k → Shaped F (next F b (write t r s))
+  shaped-write t r s k sane ok = shaped-wrote t r s k (sane .bounded .within s (write-ok F b k t r s ok .4)) ok
 
   pub shaped-free : (t r k : ℕ) → answer F b (free t r) ≡ Done k → Shaped F (next F b (free t r))
   shaped-free t r k ok =

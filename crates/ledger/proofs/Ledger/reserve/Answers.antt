@@ -1,0 +1,10 @@
+use native.Mathlib.Omega.{arith}
+use mathlib.Core.Path.{refl}
+use Rattle.orders.specs.Meaning.{reserve}
+use Rattle.ledger.proofs.Laws as laws
+use Rattle.ledger.proofs.Ledger.reserve.Needs as need
+
+pub returns : need.returns
+returns g c =
+    laws.plain (g .A·Allocator .units) (g .A·Allocator .wellmade) (g .A·Allocator .lent) (g .P·CostPolicy .cost) (g .P·CostPolicy .worst)
+    (c .args .self .now) (c .reserve .last .self) (reserve (c .args .dataset) (c .args .units)) _ _ (c .pre) (omega arith, omega arith) (c .reserve .ensures) (c .done .ensures) refl refl refl

@@ -1,0 +1,3 @@
+pub mod Outs
+pub mod Laws
+pub mod Moves

@@ -1,0 +1,16 @@
+pub mod Once
+pub mod Joins
+pub mod Sounds
+pub mod Asks
+pub mod Checks
+pub mod Transacts
+pub mod Grants
+pub mod Makes
+pub mod Grows
+pub mod Settings
+pub mod Bounds
+pub mod Costs
+pub mod Writes
+pub mod Tells
+pub mod Turns
+pub mod Cuts
