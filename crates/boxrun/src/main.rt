@@ -1,4 +1,6 @@
 // Runs the script that comes on standard input on a pool of 100 units, and writes the answers and how the run ended.
+#![tactic(auto)]
+
 ghost use Rattle.setup.specs.Schemes.{plan};
 ghost use Rattle.setup.specs.Setups.{Ran};
 ghost use Rattle.setup.specs.declared.scheme.Scheme.TheVariants.{Copies as copies_of};

@@ -1,6 +1,6 @@
 -- Rows with one of them set anew: what the edit leaves, and that the paths stay.
 use Rattle.std.proofs.Common.{◌≡◌, ℕ, zero, suc, ◌<◌, ◌≢◌, List, ◌∷◌, length, set, refl, ap, ◌∙◌, inl, inr, arith}
-use Rattle.std.proofs.lemmas.List.{length-set, get_or-set_same, get_or_set_other}
+use Rattle.std.proofs.lemmas.List.{length-set, get_or-set_same, get_or-set_other}
 use Rattle.std.proofs.lemmas.Bool.{cases_eq}
 use Rattle.charges.specs.declared.Row.{Row}
 use Rattle.charges.specs.Tree.{blank, row, Rooted, climb, path, with_own, with_reservation, with_quota}
@@ -17,7 +17,7 @@ pub record Edited (rows rows' : List Row) (v : ℕ) : Type 0 where
 
 module _ (rows : List Row) (v : ℕ) (r : Row) (h : v < length rows) where
   elsewhere : (k : ℕ) → k ≢ v → row (set rows v r) k ≡ row rows k
-  elsewhere k ne = get_or_set_other rows v k r blank ne
+  elsewhere k ne = get_or-set_other rows v k r blank ne
 
   at_v : (f : Row → ℕ) → f (row (set rows v r) v) ≡ f r
   at_v f = ap f (get_or-set_same rows v r blank h)

@@ -1,6 +1,6 @@
 -- The kept charges, with a change spread along the path, are the charges computed from nothing.
 use Rattle.std.proofs.Common.{◌≡◌, ℕ, zero, suc, ◌+◌, ◌<◌, ◌≤◌, ◌≢◌, List, [], ◌∷◌, ◌++◌, length, get_or, set, ℤ, sym, refl, ap, ◌∙◌, subst, inl, inr, le_refl, arith}
-use Rattle.std.proofs.lemmas.List.{length-set, get_or-set_same, get_or_set_other, length_push, get_or_push, get_or_append_left}
+use Rattle.std.proofs.lemmas.List.{length-set, get_or-set_same, get_or-set_other, length_push, get_or_push, get_or_append_left}
 use Rattle.std.proofs.lemmas.Bool.{cases_lt, cases_eq}
 use Rattle.charges.specs.declared.Row.{Row}
 use Rattle.charges.specs.Amounts.{passed, changed}
@@ -39,7 +39,7 @@ module _ (rows rows' : List Row) (v : ℕ) (rooted : Rooted rows) (h : v < lengt
     | inl e≡d ↦
         rw e≡d (get_or-set_same kept d (changed (charge rows d) c) 0 (omega (arith, half.as_long))
         ∙ changed_to (charge rows d) (charge rows' d) c come.arrives)
-    | inr ne ↦ get_or_set_other kept d e (changed (charge rows d) c) 0 ne ∙ half.behind e l (omega arith)
+    | inr ne ↦ get_or-set_other kept d e (changed (charge rows d) c) 0 ne ∙ half.behind e l (omega arith)
   ]
 
   pub done : (c : ℤ) (kept : List ℕ) → Come rows rows' v 0 c → Half rows rows' 0 kept → Keeps rows' (set kept 0 (changed (charge rows 0) c))
@@ -57,11 +57,11 @@ module _ (rows rows' : List Row) (v : ℕ) (rooted : Rooted rows) (h : v < lengt
         as_long = length-set kept d (changed (charge rows d) c) ∙ half.as_long;
         behind = λ e l lt. elim (cases_lt e d) [
           | inl e<d ↦
-              get_or_set_other kept d e (changed (charge rows d) c) 0 (omega arith) ∙ half.ahead e (omega arith)
+              get_or-set_other kept d e (changed (charge rows d) c) 0 (omega arith) ∙ half.ahead e (omega arith)
               ∙ sym (m.off_path e l (λ p. omega (arith, path-next rows rooted v d e h come.on_path p e<d)))
           | inr d≤e ↦ written d c kept come half e l d≤e
         ];
-        ahead = λ e e≤. get_or_set_other kept d e (changed (charge rows d) c) 0 (omega arith) ∙ half.ahead e (omega arith);
+        ahead = λ e e≤. get_or-set_other kept d e (changed (charge rows d) c) 0 (omega arith) ∙ half.ahead e (omega arith);
       }
 
   spreads : (fuel d : ℕ) (c : ℤ) (kept : List ℕ) → d ≤ fuel → Come rows rows' v d c → Half rows rows' d kept →

@@ -1,4 +1,6 @@
 // The theory of the dataset tree: rows, what each dataset is charged, limits and walks, with the theorems about them.
+#![tactic(auto)]
+
 pub mod numbers;
 pub mod theorems;
 

@@ -1,4 +1,6 @@
 // What a write costs in units: the meaning of a cost policy, and two policies, copies and parity.
+#![tactic(auto)]
+
 pub mod copies;
 pub mod estimate;
 pub mod fault;

@@ -1,4 +1,6 @@
 // A table of figures as text: each line names what is asked and what is expected, and is judged by running the code.
+#![tactic(auto)]
+
 mod answer;
 pub mod figure;
 pub mod judge;

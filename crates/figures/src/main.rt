@@ -1,4 +1,6 @@
 // Runs the code on each line of a table of figures, read from standard input, and prints what came of it.
+#![tactic(auto)]
+
 use figure_table::judge::judge_line;
 use figure_table::report::{report, summary};
 use figure_table::tally::Tally;

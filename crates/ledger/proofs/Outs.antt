@@ -1,6 +1,6 @@
 -- Whether some unit is out.
 use Rattle.std.proofs.Common.{◌≡◌, ℕ, zero, suc, ◌+◌, ◌<◌, ◌≤◌, Bool, true, false, cond, ltb, List, [], ◌∷◌, length, get_or, replicate, Ok, Err, Result, sym, refl, ap, ◌∙◌, inl, inr, arith}
-use Rattle.std.proofs.lemmas.List.Sums.{sum_by-cons, get_or_le_sum_by}
+use Rattle.std.proofs.lemmas.List.Sums.{sum_by-cons, get_or-le-sum_by}
 use Rattle.std.proofs.lemmas.Bool.{lt-ltb, le-ltb, ltb-true, ltb-false, true≢false}
 use Rattle.pool.specs.Units.{outs}
 use Rattle.pool.proofs.Outs.{within}
@@ -10,7 +10,7 @@ use Rattle.ledger.specs.Makes.{any_out, check_answer}
 
 pub one_out : (us : List Bool) (u : ℕ) → get_or us u false ≡ true → any_out us ≡ true
 one_out us u e =
-    let h = get_or_le_sum_by (λ (b : Bool). cond b 1 0) us u false (within us u e) in
+    let h = get_or-le-sum_by (λ (b : Bool). cond b 1 0) us u false (within us u e) in
     let d : ◌≡◌ {A = ℕ} (cond (get_or us u false) 1 0) 1 = ap (λ (b : Bool). cond b 1 0) e in
     lt-ltb 0 (outs us) (omega arith)
 

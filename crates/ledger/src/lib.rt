@@ -1,4 +1,6 @@
 // The ledger of a pool: the book of its datasets and transactions, and who has each unit.
+#![tactic(auto)]
+
 pub mod fault;
 pub mod making;
 pub mod obey;

@@ -1,6 +1,6 @@
 -- The links of one holder's units: a unit comes to its head or leaves from there, and a unit of others is moved.
 use Rattle.std.proofs.Common.{◌≡◌, ℕ, ◌<◌, ◌≤◌, Bool, true, false, List, [], ◌∷◌, length, get_or, set, sym, refl, ap, ◌∙◌, subst, inl, inr, arith}
-use Rattle.std.proofs.lemmas.List.{get_or-set_same, get_or_set_other}
+use Rattle.std.proofs.lemmas.List.{get_or-set_same, get_or-set_other}
 use Rattle.std.proofs.lemmas.Bool.{cases_eq, cases_Bool, true≢false}
 use Rattle.pool.specs.Links.{Apart, Among, Threads}
 use Rattle.rules.specs.declared.state.Holder.{Holder}
@@ -14,7 +14,7 @@ low ls n h (x ∷ xs) t = omega (arith, t.0, t.1)
 threads-set : (ls : List ℕ) (n h : ℕ) (xs : List ℕ) (u v : ℕ) → Apart u xs → Threads ls n h xs → Threads (set ls u v) n h xs
 threads-set ls n h [] u v a t = t
 threads-set ls n h (x ∷ xs) u v a t =
-    let o : get_or (set ls u v) x 0 ≡ get_or ls x 0 = get_or_set_other ls u x v 0 (λ q. a.0 (sym q)) in
+    let o : get_or (set ls u v) x 0 ≡ get_or ls x 0 = get_or-set_other ls u x v 0 (λ q. a.0 (sym q)) in
     let r = threads-set ls n (get_or ls x 0) xs u v a.1 t.3 in
     let P : ℕ → Type 0 = λ m. Threads (set ls u v) n m xs in
     (t.0, t.1, t.2, subst P (sym o) r)
@@ -53,7 +53,7 @@ module _ (n : ℕ) (hs : List Holder) (next : List ℕ) (p : Holder → Bool) wh
     set_here = ap p (get_or-set_same hs u y Nobody inside)
 
     set_there : (k : ℕ) → (k ≡ u → ⊥) → p (get_or (set hs u y) k Nobody) ≡ p (get_or hs k Nobody)
-    set_there k ne = ap p (get_or_set_other hs u k y Nobody ne)
+    set_there k ne = ap p (get_or-set_other hs u k y Nobody ne)
 
     -- a unit that is not the holder's, before and after
     pub beside : (h v : ℕ) → Chained n hs next h p → p (get_or hs u Nobody) ≡ false → p y ≡ false → Chained n (set hs u y) (set next u v) h p

@@ -1,6 +1,6 @@
 -- One unit moves: from nobody to a record, from a record to the deferred, from the deferred to nobody.
 use Rattle.std.proofs.Common.{◌≡◌, ℕ, ◌+◌, ◌*◌, ◌<◌, ◌≤◌, true, false, eqb, List, length, get_or, set, sym, refl, ap, ◌∙◌, subst, inl, inr, arith}
-use Rattle.std.proofs.lemmas.List.{length-set, get_or-set_same, get_or_set_other, set-get_or}
+use Rattle.std.proofs.lemmas.List.{length-set, get_or-set_same, get_or-set_other, set-get_or}
 use Rattle.std.proofs.lemmas.Bool.{cases_eq, true≢false, eq-eqb, ne_eqb, eqb-true, and_from, and_parts, and_left, and_right}
 use Rattle.rules.specs.Holders.{same, is_deferred}
 use Rattle.rules.specs.declared.state.Holder.{Holder}
@@ -36,7 +36,7 @@ named_set : (hs : List Holder) (u : ℕ) (y : Holder) → u < length hs → Name
 named_set hs u y l n all k =
     elim (cases_eq k u) [
       | inl e ↦ subst Named (sym (ap (λ (j : ℕ). get_or (set hs u y) j Nobody) e ∙ get_or-set_same hs u y Nobody l)) n
-      | inr d ↦ subst Named (sym (get_or_set_other hs u k y Nobody d)) (all k)
+      | inr d ↦ subst Named (sym (get_or-set_other hs u k y Nobody d)) (all k)
     ]
 
 module _ (n : ℕ) (hs : List Holder) (next first : List ℕ) (d : ℕ) (w : Linked n hs next first d) (small : n ≤ 4096) where
@@ -65,7 +65,7 @@ module _ (n : ℕ) (hs : List Holder) (next first : List ℕ) (d : ℕ) (w : Lin
               subst P (sym ex) (subst Q (sym es) (subst R (sym head) it))
           | inr ne ↦
               let P : ℕ → Type 0 = λ k. C x s k in
-              subst P (sym (get_or_set_other first (v * 64 + r) (x * 64 + s) u 0 ne))
+              subst P (sym (get_or-set_other first (v * 64 + r) (x * 64 + s) u 0 ne))
               (beside n hs next (same (Record x s)) u y inside _ h (w.records x s lx ls) (ap (same (Record x s)) free) (same_other x s v r ne))
         ];
         deferred = beside n hs next is_deferred u y inside d h w.deferred (ap is_deferred free) refl;
@@ -104,7 +104,7 @@ module _ (n : ℕ) (hs : List Holder) (next first : List ℕ) (d : ℕ) (w : Lin
               subst P (sym ex) (subst Q (sym es) (subst R (sym head) it))
           | inr dif ↦
               let P : ℕ → Type 0 = λ k. C x s k in
-              subst P (sym (get_or_set_other first (v * 64 + r) (x * 64 + s) t 0 dif))
+              subst P (sym (get_or-set_other first (v * 64 + r) (x * 64 + s) t 0 dif))
               (beside n hs next (same (Record x s)) u y inside _ d (w.records x s lx ls) (ap (same (Record x s)) o.1 ∙ same_other x s v r dif) refl)
         ];
         deferred = pushed n hs next is_deferred u y inside d w.deferred o.0 (omega (arith, w.wide, o.0)) (ap is_deferred o.1) refl;

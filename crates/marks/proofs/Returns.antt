@@ -1,7 +1,7 @@
 -- Deferred units are given back one by one.
 use Rattle.std.proofs.Common.{◌≡◌, ℕ, ◌+◌, ◌-◌, ◌<◌, ◌≤◌, Bool, true, false, not, ◌&&◌, List, map, length, get_or, set, count_by, sym, refl, ap, ◌∙◌, inl, inr, arith}
 use Rattle.std.proofs.lemmas.List.FromFn.{length-map-range_with_len, get_or-map-range_with_len}
-use Rattle.std.proofs.lemmas.List.{length-set, get_or-set_same, get_or_set_other, ext_get_or}
+use Rattle.std.proofs.lemmas.List.{length-set, get_or-set_same, get_or-set_other, ext_get_or}
 use Rattle.std.proofs.lemmas.Bool.{cases_eq, true≢false, and_left, and_right}
 use Rattle.pool.specs.Units.{outs}
 use Rattle.pool.proofs.Outs.{within, outs_given}
@@ -51,8 +51,8 @@ returned-more us hs u l d =
           and_left (get_or vs k false) _ (ap (λ (j : ℕ). get_or vs j false) q ∙ get_or-set_same us u false false l)
           ∙ sym (and_right (get_or us k false) _ (ap (λ (j : ℕ). not (is_deferred (get_or hs j Nobody))) q ∙ ap not d))
       | inr ne ↦
-          ap (λ (b : Bool). b && not (is_deferred (get_or ks k Nobody))) (get_or_set_other us u k false false ne)
-          ∙ ap (λ (x : Holder). get_or us k false && not (is_deferred x)) (get_or_set_other hs u k Nobody Nobody ne)
+          ap (λ (b : Bool). b && not (is_deferred (get_or ks k Nobody))) (get_or-set_other us u k false false ne)
+          ∙ ap (λ (x : Holder). get_or us k false && not (is_deferred x)) (get_or-set_other hs u k Nobody Nobody ne)
     ]
     ∙ sym (returned-at us hs k l2))
 
@@ -89,7 +89,7 @@ module _ {A : Type 0} (U : A → List Bool) (W : A → Type 0) (m : Marks A) (u 
               | inl q ↦
                   ap (λ (j : ℕ). get_or (set us u false) j false) q ∙ get_or-set_same us u false false lu
                   ∙ sym (ap (λ (j : ℕ). is_held (get_or (set hs u Nobody) j Nobody)) q ∙ ap is_held (get_or-set_same hs u Nobody Nobody l))
-              | inr ne ↦ get_or_set_other us u k false false ne ∙ s.held k ∙ ap is_held (sym (get_or_set_other hs u k Nobody Nobody ne))
+              | inr ne ↦ get_or-set_other us u k false false ne ∙ s.held k ∙ ap is_held (sym (get_or-set_other hs u k Nobody Nobody ne))
             ]
             ∙ ap (λ (x : List Holder). is_held (get_or x k Nobody)) (sym eh);
         counted = omega (arith, eo, s.counted, ap outs eu, outs_given us u is_out);

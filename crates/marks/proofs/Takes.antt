@@ -1,7 +1,7 @@
 -- Units are taken one by one for a record.
 use Rattle.std.proofs.Common.{◌≡◌, ℕ, ◌+◌, ◌<◌, ◌≤◌, Bool, true, false, cond, ◌&&◌, ltb, leb, List, length, get_or, set, Ok, Err, count_by, sym, refl, ap, ◌∙◌, inl, inr, arith}
 use Rattle.std.proofs.lemmas.List.FromFn.{length-map-range_with_len, get_or-map-range_with_len}
-use Rattle.std.proofs.lemmas.List.{length-set, get_or-set_same, get_or_set_other, ext_get_or}
+use Rattle.std.proofs.lemmas.List.{length-set, get_or-set_same, get_or-set_other, ext_get_or}
 use Rattle.std.proofs.lemmas.List.Sums.{sum_by-set, count_by-le-length}
 use Rattle.std.proofs.lemmas.Bool.{cases_eq, cases_lt, true≢false, cond-true, cond-false, and_from, and_left, and_right, lt-ltb, le-ltb, le-leb, lt-leb}
 use Rattle.pool.specs.declared.allocator.AllocatorFault.{AllocatorFault}
@@ -63,7 +63,7 @@ module _ (h : Holder) (n u : ℕ) (us vs ws : List Bool) (hs ks ls : List Holder
   here = ap (λ (x : List Bool). get_or x u false) t.2 ∙ get_or-set_same vs u true false t.0
 
   there : (k : ℕ) → (k ≡ u → ⊥) → get_or ws k false ≡ get_or vs k false
-  there k ne = ap (λ (x : List Bool). get_or x k false) t.2 ∙ get_or_set_other vs u k true false ne
+  there k ne = ap (λ (x : List Bool). get_or x k false) t.2 ∙ get_or-set_other vs u k true false ne
 
   same-long : length ks ≡ length hs
   same-long = ap length w.marks ∙ length-handed h us vs hs
@@ -77,7 +77,7 @@ module _ (h : Holder) (n u : ℕ) (us vs ws : List Bool) (hs ks ls : List Holder
             ap (λ (j : ℕ). get_or (set ks u h) j Nobody) q ∙ get_or-set_same ks u h Nobody l1
             ∙ sym (handed-at h us ws hs k l2 ∙ taken-new h _ _ _ (ap (λ (j : ℕ). get_or us j false) q ∙ was_in (get_or us u false) (get_or vs u false) (w.stays u) t.1) (ap (λ (j : ℕ). get_or ws j false) q ∙ here))
         | inr ne ↦
-            get_or_set_other ks u k h Nobody ne ∙ ap (λ (x : List Holder). get_or x k Nobody) w.marks ∙ handed-at h us vs hs k l2
+            get_or-set_other ks u k h Nobody ne ∙ ap (λ (x : List Holder). get_or x k Nobody) w.marks ∙ handed-at h us vs hs k l2
             ∙ ap (λ (b : Bool). taken h (get_or us k false) b (get_or hs k Nobody)) (sym (there k ne)) ∙ sym (handed-at h us ws hs k l2)
       ]
 
@@ -122,7 +122,7 @@ module _ {A : Type 0} (U : A → List Bool) (W : A → Type 0) (m m' : Marks A) 
               | inl q ↦
                   ap (λ (j : ℕ). get_or (set us u true) j false) q ∙ get_or-set_same us u true false t.0
                   ∙ sym (ap (λ (j : ℕ). is_held (get_or (set hs u h) j Nobody)) q ∙ ap is_held (get_or-set_same hs u h Nobody l) ∙ held)
-              | inr ne ↦ get_or_set_other us u k true false ne ∙ s.held k ∙ ap is_held (sym (get_or_set_other hs u k h Nobody ne))
+              | inr ne ↦ get_or-set_other us u k true false ne ∙ s.held k ∙ ap is_held (sym (get_or-set_other hs u k h Nobody ne))
             ]
             ∙ ap (λ (x : List Holder). is_held (get_or x k Nobody)) (sym eh);
         counted = omega (arith, eo, s.counted, ap outs t.2, outs-taken us u t.0 t.1);

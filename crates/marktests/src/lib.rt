@@ -1,4 +1,6 @@
 // Tests of the marks over a bitmap and a chain.
+#![tactic(auto)]
+
 ghost use Rattle.marks.specs.Sound.{Sound};
 
 #[cfg(test)]

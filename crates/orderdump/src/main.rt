@@ -1,5 +1,7 @@
 // Lists the orders of a script that comes on standard input, a line each, and says where and why the
 // list ends.
+#![tactic(auto)]
+
 mod words;
 
 use reader::reader::Reader;

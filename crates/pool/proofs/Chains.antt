@@ -1,6 +1,6 @@
 -- A chain through the units that are in: its head is taken off, or another unit is put before it.
 use Rattle.std.proofs.Common.{◌≡◌, ℕ, zero, suc, ◌+◌, ◌-◌, ◌<◌, ◌≤◌, Bool, true, false, eqb, List, [], ◌∷◌, ◌++◌, map, length, get_or, drop, set, replicate, Ok, sym, refl, ap, ◌∙◌, subst, inl, inr, arith}
-use Rattle.std.proofs.lemmas.List.{length-set, length-append, length-drop, get_or-set_same, get_or_set_other, get_or_append_left, get_or_append_right, get_or-drop, drop-set-lt, get_or_past, ext_get_or, length-replicate, get_or-replicate}
+use Rattle.std.proofs.lemmas.List.{length-set, length-append, length-drop, get_or-set_same, get_or-set_other, get_or_append_left, get_or-append_right, get_or-drop, drop-set-lt, get_or_past, ext_get_or, length-replicate, get_or-replicate}
 use Rattle.std.proofs.lemmas.List.FromFn.{length-range_with_len, get_or-range_with_len, length-map-range_with_len, get_or-map-range_with_len}
 use Rattle.std.proofs.lemmas.Bool.{cases_eq, cases_lt, eq-eqb, ne_eqb, eqb-true}
 use Rattle.std.specs.List.{range_with_len}
@@ -20,7 +20,7 @@ apart_out ls n h (x ∷ xs) f t u e =
 threads-set : (ls : List ℕ) (n h : ℕ) (xs : List ℕ) (u v : ℕ) → Apart u xs → Threads ls n h xs → Threads (set ls u v) n h xs
 threads-set ls n h [] u v a t = t
 threads-set ls n h (x ∷ xs) u v a t =
-    let o : get_or (set ls u v) x 0 ≡ get_or ls x 0 = get_or_set_other ls u x v 0 (λ q. a.0 (sym q)) in
+    let o : get_or (set ls u v) x 0 ≡ get_or ls x 0 = get_or-set_other ls u x v 0 (λ q. a.0 (sym q)) in
     let r = threads-set ls n (get_or ls x 0) xs u v a.1 t.3 in
     let P : ℕ → Type 0 = λ m. Threads (set ls u v) n m xs in
     (t.0, t.1, t.2, subst P (sym o) r)
@@ -44,7 +44,7 @@ unlink ls n h (x ∷ xs) s t all ne =
       threads = threads-set ls n (get_or ls h 0) xs h 65535 a r;
       all = λ k b o. elim (cases_eq k h) [
         | inl q ↦ absurd (o (ap (λ (j : ℕ). get_or (set ls h 65535) j 0) q ∙ get_or-set_same ls h 65535 0 (omega (arith, t.0, t.1, s.2))))
-        | inr m ↦ elim (all k b (λ e. o (get_or_set_other ls h k 65535 0 m ∙ e))) [ inl q ↦ absurd (m (q ∙ sym t.0)) | inr i ↦ i ]
+        | inr m ↦ elim (all k b (λ e. o (get_or-set_other ls h k 65535 0 m ∙ e))) [ inl q ↦ absurd (m (q ∙ sym t.0)) | inr i ↦ i ]
       ];
     }
 
@@ -60,7 +60,7 @@ given_linked ls n h u w b e =
       space = space-set ls n u h w.space;
       free = u ∷ w.free;
       threads = (refl, b, a, subst P (sym g) (threads-set ls n h w.free u h a w.threads));
-      all = λ k c o. elim (cases_eq k u) [ inl q ↦ inl q | inr m ↦ inr (w.all k c (λ e'. o (get_or_set_other ls u k h 0 m ∙ e'))) ];
+      all = λ k c o. elim (cases_eq k u) [ inl q ↦ inl q | inr m ↦ inr (w.all k c (λ e'. o (get_or-set_other ls u k h 0 m ∙ e'))) ];
     }
 
 -- the list of the units
@@ -91,8 +91,8 @@ taken-set ls n u v s b =
           taken_at (set ls u v) n k (omega arith) ∙ ap (out_at (set ls u v)) q ∙ ap (λ (x : ℕ). eqb x 65535) (get_or-set_same ls u v 0 (omega arith))
           ∙ sym (ap (λ (j : ℕ). get_or (set (taken ls n) u o) j false) q ∙ get_or-set_same (taken ls n) u o false (omega arith))
       | inr d ↦
-          taken_at (set ls u v) n k (omega arith) ∙ ap (λ (x : ℕ). eqb x 65535) (get_or_set_other ls u k v 0 d)
-          ∙ sym (get_or_set_other (taken ls n) u k o false d ∙ taken_at ls n k (omega arith))
+          taken_at (set ls u v) n k (omega arith) ∙ ap (λ (x : ℕ). eqb x 65535) (get_or-set_other ls u k v 0 d)
+          ∙ sym (get_or-set_other (taken ls n) u k o false d ∙ taken_at ls n k (omega arith))
     ])
 
 -- the next of the head is a unit or the end, so the head is in
@@ -171,7 +171,7 @@ linking ls ms n s l front rest =
       | inl b ↦ front k b ∙ sym (chained-at ls n k b)
       | inr b ↦
           let e : n + (k - n) ≡ k = omega arith in
-          rest k b ∙ sym (get_or_append_right (range_with_len 1 n) (drop n ls) n k 0 (length-range_with_len 1 n) b ∙ get_or-drop n ls (k - n) 0 ∙ ap (λ (j : ℕ). get_or ls j 0) e)
+          rest k b ∙ sym (get_or-append_right (range_with_len 1 n) (drop n ls) n k 0 (length-range_with_len 1 n) b ∙ get_or-drop n ls (k - n) 0 ∙ ap (λ (j : ℕ). get_or ls j 0) e)
     ])
 
 -- the entry of a unit is none of what the memory holds beside the units

@@ -1,6 +1,6 @@
 -- Two allocators as one: what is done to the units of one is done to those of both.
 use Rattle.std.proofs.Common.{◌≡◌, ℕ, ◌+◌, ◌-◌, ◌<◌, ◌≤◌, Bool, true, false, List, ◌++◌, length, get_or, set, Ok, Err, Result, sym, refl, ap, ◌∙◌, inl, inr, arith}
-use Rattle.std.proofs.lemmas.List.{length-append, length-set, get_or_append_left, get_or_append_right, set-append_left, set-append_right}
+use Rattle.std.proofs.lemmas.List.{length-append, length-set, get_or_append_left, get_or-append_right, set-append_left, set-append_right}
 use Rattle.std.proofs.lemmas.Bool.{cases_lt}
 use Rattle.pool.specs.declared.allocator.AllocatorFault.{AllocatorFault}
 use Rattle.pool.specs.declared.allocator.AllocatorFault.TheVariants.{NotOut}
@@ -16,7 +16,7 @@ pub took-second : (us vs ws xs : List Bool) (f : AllocatorFault) (n u : ℕ) →
 took-second us vs ws xs f n u e s t =
     let k : (n + u) - n ≡ u = omega arith in (
       omega (arith, length-append us ws, t.0),
-      get_or_append_right us ws n (n + u) false (sym e) (omega arith) ∙ ap (λ (j : ℕ). get_or ws j false) k ∙ t.1,
+      get_or-append_right us ws n (n + u) false (sym e) (omega arith) ∙ ap (λ (j : ℕ). get_or ws j false) k ∙ t.1,
       ap (λ (l : List Bool). l ++ xs) s.2 ∙ ap (λ (l : List Bool). us ++ l) t.2 ∙ sym (set-append_right us ws n (n + u) true (sym e) (omega arith) ∙ ap (λ (j : ℕ). us ++ set ws j true) k),
     )
 
@@ -25,7 +25,7 @@ took_neither us vs ws xs f h s t = (
   t.0,
   (λ k below. elim (cases_lt k (length us)) [
     | inl l ↦ get_or_append_left us ws false k l ∙ s.1 k l
-    | inr m ↦ get_or_append_right us ws (length us) k false refl m ∙ t.1 (k - length us) (omega (arith, length-append us ws))
+    | inr m ↦ get_or-append_right us ws (length us) k false refl m ∙ t.1 (k - length us) (omega (arith, length-append us ws))
   ]),
   ap (λ (l : List Bool). l ++ xs) s.2 ∙ ap (λ (l : List Bool). us ++ l) t.2,
 )
@@ -37,7 +37,7 @@ at_first us ws n u v b e h q o = o ∙ ap (λ (k : ℕ). get_or us k false) q �
 pub at_second : (us ws : List Bool) (n u v : ℕ) (b : Bool) → n ≡ length us → n + v ≡ u → b ≡ get_or ws v false → b ≡ get_or (us ++ ws) u false
 at_second us ws n u v b e q o =
     let k : u - n ≡ v = omega arith in
-    o ∙ sym (get_or_append_right us ws n u false (sym e) (omega arith) ∙ ap (λ (j : ℕ). get_or ws j false) k)
+    o ∙ sym (get_or-append_right us ws n u false (sym e) (omega arith) ∙ ap (λ (j : ℕ). get_or ws j false) k)
 
 pub gave_first : (us vs ws : List Bool) (n u v : ℕ) (r : Result (Unit {0}) AllocatorFault) → n ≡ length us → u < n → v ≡ u → Gave us vs v r → Gave (us ++ ws) (vs ++ ws) u r
 gave_first us vs ws n u v (Ok _) e h q t =
@@ -50,14 +50,14 @@ gave_first us vs ws n u v (Err f) e h q t =
 pub gave_second : (us ws xs : List Bool) (n u v : ℕ) → n ≡ length us → n + v ≡ u → Gave ws xs v (Ok tt) → Gave (us ++ ws) (us ++ xs) u (Ok tt)
 gave_second us ws xs n u v e q t =
     let k : u - n ≡ v = omega arith in (
-      get_or_append_right us ws n u false (sym e) (omega arith) ∙ ap (λ (j : ℕ). get_or ws j false) k ∙ t.0,
+      get_or-append_right us ws n u false (sym e) (omega arith) ∙ ap (λ (j : ℕ). get_or ws j false) k ∙ t.0,
       ap (λ (l : List Bool). us ++ l) (t.1 ∙ ap (λ (j : ℕ). set ws j false) (sym k)) ∙ sym (set-append_right us ws n u false (sym e) (omega arith)),
     )
 
 pub gave_neither : (us ws xs : List Bool) (n u v : ℕ) (f : AllocatorFault) → n ≡ length us → n + v ≡ u → Gave ws xs v (Err f) → Gave (us ++ ws) (us ++ xs) u (Err (NotOut u))
 gave_neither us ws xs n u v f e q t =
     let k : u - n ≡ v = omega arith in
-    (refl, get_or_append_right us ws n u false (sym e) (omega arith) ∙ ap (λ (j : ℕ). get_or ws j false) k ∙ t.1, ap (λ (l : List Bool). us ++ l) t.2)
+    (refl, get_or-append_right us ws n u false (sym e) (omega arith) ∙ ap (λ (j : ℕ). get_or ws j false) k ∙ t.1, ap (λ (l : List Bool). us ++ l) t.2)
 
 -- the pair itself is as it was where its two are
 module _ {A B : Type 0} where

@@ -3,7 +3,7 @@ use Rattle.std.proofs.Common.{◌≡◌, ℕ, zero, suc, ◌+◌, ◌-◌, ◌*�
 use native.Mathlib.Nat.{div-eq_of_lt}
 use lib.Bits.{bit_xor, xor_zero_r}
 use Rattle.std.proofs.lemmas.Nat.{xor_shr, xor_mod, shl-shr, shr-shr, pow-add, pow_below, pow_pos}
-use Rattle.std.proofs.lemmas.List.{get_or-set_same, get_or_set_other, get_or_past, length-set, ext_get_or, length-replicate, get_or-replicate}
+use Rattle.std.proofs.lemmas.List.{get_or-set_same, get_or-set_other, get_or_past, length-set, ext_get_or, length-replicate, get_or-replicate}
 use Rattle.std.proofs.lemmas.List.FromFn.{length-map-range_with_len, get_or-map-range_with_len, fill_by_all}
 use Rattle.std.proofs.lemmas.Bool.{cases_eq, cases_lt, eqb-true, eq-eqb, ne_eqb}
 use Rattle.std.specs.List.{range_with_len}
@@ -81,7 +81,7 @@ turned-there bs i h k ne =
           ∙ turned_other (get_or bs (i / 8) 0) (i % 8) (k % 8) (λ q. ne (omega arith))
           ∙ ap (λ (n : ℕ). bit_of (get_or bs n 0) (k % 8)) (sym e)
       | inr o ↦
-          ap (λ (x : ℕ). bit_of x (k % 8)) (get_or_set_other bs (i / 8) (k / 8) (bit_xor (get_or bs (i / 8) 0) (2 ^ (i % 8))) 0 o)
+          ap (λ (x : ℕ). bit_of x (k % 8)) (get_or-set_other bs (i / 8) (k / 8) (bit_xor (get_or bs (i / 8) 0) (2 ^ (i % 8))) 0 o)
     ]
 
 -- the list of the units
@@ -107,7 +107,7 @@ marks-turned bs n i v room h here =
           ∙ sym (ap (λ (j : ℕ). get_or (set (marks bs n) i v) j false) e ∙ get_or-set_same (marks bs n) i v false (omega arith))
       | inr o ↦
           marks-at cs n k (omega arith) ∙ turned-there bs i fits k o
-          ∙ sym (get_or_set_other (marks bs n) i k v false o ∙ marks-at bs n k (omega arith))
+          ∙ sym (get_or-set_other (marks bs n) i k v false o ∙ marks-at bs n k (omega arith))
     ])
 
 -- every unit was found out
@@ -278,7 +278,7 @@ cleared-turned bs n u room b =
           ∙ ap (λ (x : ℕ). low_cleared x (n - 8 * i)) (get_or-set_same bs (u / 8) v 0 (omega arith))
           ∙ low-turned (get_or bs (u / 8) 0) (n - 8 * i) (u % 8) (omega arith)
           ∙ ap (λ (k : ℕ). low_cleared (get_or bs k 0) (n - 8 * i)) (sym e)
-      | inr o ↦ ap (λ (x : ℕ). low_cleared x (n - 8 * i)) (get_or_set_other bs (u / 8) i v 0 o)
+      | inr o ↦ ap (λ (x : ℕ). low_cleared x (n - 8 * i)) (get_or-set_other bs (u / 8) i v 0 o)
     ] ∙ sym (cleared_at bs n i (omega arith)))
 
 pub beside-turned : (m : ℕ) (bs cs : List ℕ) (n u : ℕ) → n ≤ 8 * length bs → u < n → cs ≡ turned bs u → beside_bits m cs n ≡ beside_bits m bs n

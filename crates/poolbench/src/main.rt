@@ -1,6 +1,8 @@
 // Works the allocators, a case for each line of the input: ALLOCATOR UNITS LOAD ROUNDS, as `bitmap 4096 full 1000`.
 // A round takes two units and gives them back. Under `empty` all other units are in; under `full` they are out, and
 // the two are the lowest and the highest. What it prints depends on the input alone: it is timed from outside.
+#![tactic(auto)]
+
 use pool::allocator::{Allocator, AllocatorFault};
 use pool::bitmap::Bitmap;
 use pool::chain::Chain;

@@ -1,4 +1,5 @@
 // What lenders know of their memory, and tests of the allocators.
+#![tactic(auto)]
 
 pub mod lender;
 

@@ -1,4 +1,6 @@
 // Reading a script, order by order.
+#![tactic(auto)]
+
 mod cursor;
 pub mod fault;
 mod guard;

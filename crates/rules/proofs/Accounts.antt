@@ -1,6 +1,6 @@
 -- Each unit has its holder and is counted for it: at the start, and after every accepted order.
 use Rattle.std.proofs.Common.{◌≡◌, ℕ, zero, suc, ◌+◌, ◌-◌, ◌<◌, ◌≤◌, Bool, false, cond, List, [], ◌∷◌, ◌++◌, map, length, get_or, replicate, sum_by, sum, count_by, sym, refl, ap, ◌∙◌, subst, inl, inr, le_refl, arith}
-use Rattle.std.proofs.lemmas.List.{length-set, length-map, length_push, length-replicate, get_or-set_same, get_or_set_other, get_or_append_left, get_or_push, get_or_past}
+use Rattle.std.proofs.lemmas.List.{length-set, length-map, length_push, length-replicate, get_or-set_same, get_or-set_other, get_or_append_left, get_or_push, get_or_past}
 use Rattle.std.proofs.lemmas.List.Sums.{sum_by-cons, sum_by_push, sum_by-set}
 use Rattle.std.proofs.lemmas.Bool.{cases_eq, cases_lt}
 use Rattle.orders.specs.declared.answer.Answer.TheVariants.{Done}
@@ -118,14 +118,14 @@ module _ (b : Book) (d : ℕ) (x : Dataset) (l : d < made b) (kind : x.kind ≡ 
   same_kind w =
       elim (cases_eq w d) [
         | inl e ↦ rw e (ap (λ (y : Dataset). y.kind) (get_or-set_same b.datasets d x none l) ∙ kind)
-        | inr ne ↦ ap (λ (y : Dataset). y.kind) (get_or_set_other b.datasets d w x none ne)
+        | inr ne ↦ ap (λ (y : Dataset). y.kind) (get_or-set_other b.datasets d w x none ne)
       ]
 
   same-contents : (w : ℕ) → (dataset (with_dataset b d x) w).contents ≡ (dataset b w).contents
   same-contents w =
       elim (cases_eq w d) [
         | inl e ↦ rw e (ap (λ (y : Dataset). y.contents) (get_or-set_same b.datasets d x none l) ∙ contents)
-        | inr ne ↦ ap (λ (y : Dataset). y.contents) (get_or_set_other b.datasets d w x none ne)
+        | inr ne ↦ ap (λ (y : Dataset). y.contents) (get_or-set_other b.datasets d w x none ne)
       ]
 
   alike-dataset : Alike b (with_dataset b d x)

@@ -1,7 +1,7 @@
 -- One dataset's contents at a time: the units accounted for with contents c in the place of those of dataset v. The steps of orders that move
 -- units or holders: a record's units deferred, units taken for a record, a number of records.
 use Rattle.std.proofs.Common.{◌≡◌, ℕ, zero, suc, ◌+◌, ◌<◌, ◌≤◌, Bool, true, false, cond, List, [], map, length, get_or, set, sum_by, sum, count_by, sym, refl, ap, ◌∙◌, subst, inl, inr, arith}
-use Rattle.std.proofs.lemmas.List.{length-set, length-map, get_or-set_same, get_or_set_other}
+use Rattle.std.proofs.lemmas.List.{length-set, length-map, get_or-set_same, get_or-set_other}
 use Rattle.std.proofs.lemmas.List.Sums.{sum_by-set}
 use Rattle.std.proofs.lemmas.Bool.{cases_eq, cases_lt, cond-true}
 use Rattle.std.proofs.lemmas.Bool.Decides.{nat_tests}
@@ -70,7 +70,7 @@ module _ (b : Book) (v : ℕ) (c : Contents) (lv : v < made b) where
   at_same = get_or-set_same b.datasets v (holding (dataset b v) c) (new 0 Folder (empty [] 0)) lv
 
   pub at_other : (w : ℕ) → (w ≡ v → ⊥) → dataset (with_contents b v c) w ≡ dataset b w
-  at_other w ne = get_or_set_other b.datasets v w (holding (dataset b v) c) (new 0 Folder (empty [] 0)) ne
+  at_other w ne = get_or-set_other b.datasets v w (holding (dataset b v) c) (new 0 Folder (empty [] 0)) ne
 
   pub same_kind : (w : ℕ) → (dataset (with_contents b v c) w).kind ≡ (dataset b w).kind
   same_kind w =
@@ -153,7 +153,7 @@ module _ (F : Figures) (b : Book) (v : ℕ) (lv : v < made b) (is-volume : (data
         own_records =
             λ s. elim (cases_eq s r) [
               | inl e ↦ rw e (moved.own ∙ sym (get_or-set_same c.units r 0 0 l))
-              | inr ne ↦ moved.others v s (λ _ e. ne e) ∙ a.own_records s ∙ sym (get_or_set_other c.units r s 0 0 ne)
+              | inr ne ↦ moved.others v s (λ _ e. ne e) ∙ a.own_records s ∙ sym (get_or-set_other c.units r s 0 0 ne)
             ];
         other_records = λ w s ne. moved.others w s (λ e _. ne e) ∙ a.other_records w s ne;
         own_deferred = omega (arith, moved.volume, a.own_deferred, a.own_records r);
@@ -209,7 +209,7 @@ module _ (F : Figures) (b : Book) (v : ℕ) (lv : v < made b) (is-volume : (data
                     counts (same (Record v s)) refl,
                     other_part v s v r k (λ _ e. ne e),
                     a.own_records s,
-                    get_or_set_other c.units r s k 0 ne,
+                    get_or-set_other c.units r s k 0 ne,
                   )
             ];
         other_records = λ w s ne. omega (arith, counts (same (Record w s)) refl, other_part w s v r k (λ e _. ne e), a.other_records w s ne);

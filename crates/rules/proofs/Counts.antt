@@ -3,7 +3,7 @@ use Rattle.std.proofs.Common.{◌≡◌, ℕ, zero, suc, ◌+◌, ◌<◌, ◌�
 use Rattle.std.specs.List.{range_with_len}
 use Rattle.std.proofs.lemmas.List.FromFn.{length-map-range_with_len, get_or-map-range_with_len}
 use Rattle.std.proofs.lemmas.List.{get_or_past}
-use Rattle.std.proofs.lemmas.List.Sums.{sum_by-cons, get_or_le_sum_by}
+use Rattle.std.proofs.lemmas.List.Sums.{sum_by-cons, get_or-le-sum_by}
 use Rattle.std.proofs.lemmas.Bool.{eq-eqb, and_from, cond-true, cases_lt, true≢false, false≢true}
 use Rattle.std.proofs.lemmas.Bool.Decides.{nat_tests}
 use Rattle.charges.proofs.Sums.{sum_to, sum_same, sum_add, sum-none, sum_list}
@@ -61,7 +61,7 @@ pub held-some : (x : Holder) (hs : List Holder) (u : ℕ) → is_held x ≡ true
 held-some x hs u held-y e =
     elim (cases_lt u (length hs)) [
       | inl l ↦
-          let le = get_or_le_sum_by (λ (h : Holder). cond (same x h) 1 0) hs u Nobody l in
+          let le = get_or-le-sum_by (λ (h : Holder). cond (same x h) 1 0) hs u Nobody l in
           let is : ◌≡◌ {A = ℕ} (cond (same x (get_or hs u Nobody)) 1 0) 1 = ap {B = ℕ} (λ (h : Holder). cond (same x h) 1 0) e ∙ cond-true _ 1 0 (same_self x) in
           omega arith
       | inr ge ↦ absurd (false≢true (ap is_held (sym (get_or_past hs u Nobody ge) ∙ e) ∙ held-y))

@@ -1,6 +1,6 @@
 -- An accepted write finds its units: all own units are charged to the root, whose charge is within the room.
 use Rattle.std.proofs.Common.{◌≡◌, ℕ, ◌+◌, ◌*◌, ◌<◌, ◌≤◌, Bool, eqb, List, [], length, sum_by, refl, ap, ◌∙◌, arith}
-use Rattle.std.proofs.lemmas.List.Sums.{get_or_le_sum_by}
+use Rattle.std.proofs.lemmas.List.Sums.{get_or-le-sum_by}
 use Rattle.std.proofs.lemmas.Bool.{cond-true, eq-eqb}
 use Rattle.orders.specs.declared.answer.Answer.TheVariants.{Done}
 use Rattle.orders.specs.Meaning.{write}
@@ -50,7 +50,7 @@ module _ (F : Figures) (b : Book) where
       let v = volume_of (transaction b t) in
       let is : grant_on F v (transaction b t) ≡ writes_of (transaction b t) * F.worst =
       ap (grant_on F v) assigned ∙ cond-true (eqb v v) (writes_of (transaction b t) * F.worst) 0 (eq-eqb v v refl) in
-      omega (arith, get_or_le_sum_by (grant_on F v) b.transactions t Idle l, term_le_sum (made b) (unspent_grants F b) v lv)
+      omega (arith, get_or-le-sum_by (grant_on F v) b.transactions t Idle l, term_le_sum (made b) (unspent_grants F b) v lv)
 
 pub finds : (F : Figures) (b : Book) (hs : List Holder) (us : List Bool) (t r s k : ℕ) → Sane F → Fair F b hs us →
     answer F b (write t r s) ≡ Done k → outs us + k ≤ F.size

@@ -1,7 +1,7 @@
 -- Every answer is a value or a refusal by the order's own table, and fits its fields; only tell is told figures.
 use Rattle.std.proofs.Common.{◌≡◌, ℕ, ◌+◌, ◌-◌, ◌^◌, ◌<◌, ◌≤◌, Bool, true, false, cond, not, ◌&&◌, ◌||◌, eqb, ltb, leb, ◌⊎◌, List, ◌∷◌, length, drop, pos, Some, None, sum, count_by, Option, sym, refl, ap, ◌∙◌, subst, inl, inr, arith}
 use Rattle.std.proofs.ByRecursion.{has_append_right}
-use Rattle.std.proofs.lemmas.List.Sums.{sum_by-take-drop, get_or_le_sum_by, count_by-le-length}
+use Rattle.std.proofs.lemmas.List.Sums.{sum_by-take-drop, get_or-le-sum_by, count_by-le-length}
 use Rattle.std.proofs.lemmas.Bool.{cond_both, ltb-true, leb-true, or_parts, ltb-false, and_parts}
 use Rattle.orders.specs.declared.answer.Answer.{Answer}
 use Rattle.orders.specs.declared.answer.Answer.TheVariants.{Done, Refused, Told, Stopped}
@@ -185,7 +185,7 @@ module _ (F : Figures) (b : Book) (sane : Sane F) (shaped : Shaped F b) where
         arith,
         record-units_le F b sane shaped v on.0,
         (shaped.datasets v).contents.records_few,
-        get_or_le_sum_by (λ n. n) (dataset b v).contents.units r 0 (omega (arith, (shaped.datasets v).contents.records_few, (shaped.datasets v).contents.units_long)),
+        get_or-le-sum_by (λ n. n) (dataset b v).contents.units r 0 (omega (arith, (shaped.datasets v).contents.records_few, (shaped.datasets v).contents.units_long)),
       ))
 
   to_commit_lem : (t : ℕ) (s : Transaction) → t < 2 ^ 8 → ShapedTransaction b s → Plain (to_commit F t s)

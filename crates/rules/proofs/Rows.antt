@@ -1,7 +1,7 @@
 -- The rows of a book, and how they follow an order.
 use Rattle.std.proofs.Common.{◌≡◌, ℕ, zero, suc, ◌+◌, ◌-◌, ◌*◌, ◌<◌, ◌≤◌, eqb, ◌≢◌, List, [], ◌∷◌, ◌++◌, length, get_or, set, sum_by, sum, sym, refl, ap, ◌∙◌, inl, inr, add-mul, one-mul, arith}
 use Rattle.std.proofs.lemmas.List.FromFn.{length-map-range_with_len, get_or-map-range_with_len, fill_by_all}
-use Rattle.std.proofs.lemmas.List.{length-set, length_push, length-map, get_or_past, get_or-set_same, get_or_set_other, get_or_append_left, get_or_push}
+use Rattle.std.proofs.lemmas.List.{length-set, length_push, length-map, get_or_past, get_or-set_same, get_or-set_other, get_or_append_left, get_or_push}
 use Rattle.std.proofs.lemmas.List.Sums.{sum_by-cons, sum_by-set}
 use Rattle.std.proofs.lemmas.Bool.{cases_eq, cases_lt, eq-eqb, ne_eqb, cond-true, cond-false}
 use Rattle.orders.specs.Meaning.{folder, volume, quota, reserve, resize, write, free, turn}
@@ -76,7 +76,7 @@ rows-set F b b' v r e l elsewhere here =
     elim (cases_eq d v) [
       | inl same ↦
           ap (λ (k : ℕ). row (set (rows F b) v r) k) same ∙ get_or-set_same (rows F b) v r blank (in_rows F b v l) ∙ sym here ∙ ap (row_at F b') (sym same)
-      | inr ne ↦ get_or_set_other (rows F b) v d r blank ne ∙ rows_at F b d lt ∙ sym (elsewhere d lt ne)
+      | inr ne ↦ get_or-set_other (rows F b) v d r blank ne ∙ rows_at F b d lt ∙ sym (elsewhere d lt ne)
     ])
 
 pub rows_same : (F : Figures) (b b' : Book) → made b' ≡ made b → ((d : ℕ) → d < made b → row_at F b' d ≡ row_at F b d) → rows F b' ≡ rows F b
@@ -184,7 +184,7 @@ stays-empty (suc n) r c s l none =
     stays-empty n (suc r) (emptied c r) s (omega (arith, length-set c.units r 0)) (
     elim (cases_eq s r) [
       | inl e ↦ rw e (get_or-set_same c.units r 0 0 (omega arith))
-      | inr ne ↦ get_or_set_other c.units r s 0 0 ne ∙ none
+      | inr ne ↦ get_or-set_other c.units r s 0 0 ne ∙ none
     ]
     )
 
@@ -198,7 +198,7 @@ becomes_empty (suc n) r c s l ge past =
           stays-empty n (suc r) (emptied c r) s (omega (arith, length-set c.units r 0)) (rw e (get_or-set_same c.units r 0 0 (omega arith)))
       | inr ne ↦
           becomes_empty n (suc r) (emptied c r) s (omega (arith, length-set c.units r 0)) (omega arith)
-          (λ h. get_or_set_other c.units r s 0 0 ne ∙ past (omega arith))
+          (λ h. get_or-set_other c.units r s 0 0 ne ∙ past (omega arith))
     ]
 
 pub held-emptied_from : (n r : ℕ) (c : Contents) → r + n ≤ length c.units → held_by (emptied_from r n c) ≡ held_by c
@@ -212,7 +212,7 @@ module _ (b : Book) (v : ℕ) (lv : v < made b) (x : Dataset) where
   dataset-same = get_or-set_same b.datasets v x nowhere lv
 
   pub dataset_other : (d : ℕ) → d ≢ v → dataset (with_dataset b v x) d ≡ dataset b d
-  dataset_other d ne = get_or_set_other b.datasets v d x nowhere ne
+  dataset_other d ne = get_or-set_other b.datasets v d x nowhere ne
 
   pub made-set : made (with_dataset b v x) ≡ made b
   made-set = length-set b.datasets v x

@@ -1,4 +1,6 @@
 // Tests of serving a list of orders and of running a script.
+#![tactic(auto)]
+
 #[cfg(test)]
 mod tests {
     use costs::copies::Copies;

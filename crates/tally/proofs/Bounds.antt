@@ -1,6 +1,6 @@
 -- Own units are few: all charges stay within the room.
 use Rattle.std.proofs.Common.{◌≡◌, ℕ, ◌+◌, ◌<◌, ◌≤◌, List, [], length, get_or, sum, sym, ap, ◌∙◌, arith}
-use Rattle.std.proofs.lemmas.List.Sums.{get_or_le_sum_by}
+use Rattle.std.proofs.lemmas.List.Sums.{get_or-le-sum_by}
 use Rattle.charges.specs.Tree.{row, charge}
 use Rattle.charges.proofs.Bounds.{bound_law}
 use Rattle.charges.proofs.Charge.{charge_equation}
@@ -49,4 +49,4 @@ module _ (t : Tally) (v : ℕ) (l : v < length (rows_of t.tree)) where
 
   pub record-few : (r : ℕ) → r < 64 → (contents_at t.contents v).deferred + get_or (contents_at t.contents v).units r 0 ≤ t.size
   record-few r lr =
-      omega (arith, held-few, get_or_le_sum_by (λ (x : ℕ). x) (contents_at t.contents v).units r 0 (omega (arith, units_long)))
+      omega (arith, held-few, get_or-le-sum_by (λ (x : ℕ). x) (contents_at t.contents v).units r 0 (omega (arith, units_long)))

@@ -1,7 +1,7 @@
 -- A volume cut to fewer records, or given more.
 use Rattle.std.proofs.Common.{◌≡◌, ℕ, zero, suc, ◌+◌, ◌-◌, ◌^◌, ◌<◌, ◌≤◌, Bool, true, false, cond, ◌&&◌, ltb, leb, List, [], ◌∷◌, length, get_or, drop, set, None, Ok, Err, sum, Result, sym, refl, ap, ◌∙◌, subst, inl, inr, add-zero, add-one, arith}
 use Rattle.std.proofs.lemmas.List.{length-set, get_or-drop, drop-set-lt}
-use Rattle.std.proofs.lemmas.List.Sums.{sum_by-cons, sum_by-drop_more, get_or_le_sum_by}
+use Rattle.std.proofs.lemmas.List.Sums.{sum_by-cons, sum_by-drop_more, get_or-le-sum_by}
 use Rattle.std.proofs.lemmas.Bool.{cases_lt}
 use Rattle.orders.specs.declared.answer.Answer.{Answer}
 use Rattle.orders.specs.declared.answer.Answer.TheVariants.{Done, Refused}
@@ -100,7 +100,7 @@ module _ (c : Contents) (s : ShapedContents c) (small : sum c.units + c.deferred
         arith,
         ap held_by so_far.contents_are,
         held-emptied_from (r - n) n c reaches,
-        get_or_le_sum_by (λ (x : ℕ). x) c'.units r 0 cutting_inside,
+        get_or-le-sum_by (λ (x : ℕ). x) c'.units r 0 cutting_inside,
       )
 
   pub cutting_adds : units + get_or c'.units r 0 < 2 ^ 16

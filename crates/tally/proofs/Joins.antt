@@ -1,7 +1,7 @@
 -- The datasets of the book, and how they follow an edit of the rows, the kinds or the contents.
 use Rattle.std.proofs.Common.{◌≡◌, ℕ, ◌+◌, ◌<◌, ◌≤◌, ◌≢◌, List, [], ◌∷◌, ◌++◌, length, get_or, set, sym, refl, ap, ◌∙◌, inl, inr, arith}
 use Rattle.std.proofs.lemmas.List.FromFn.{length-map-range_with_len, get_or-map-range_with_len, fill_by_all}
-use Rattle.std.proofs.lemmas.List.{length-set, length_push, get_or-set_same, get_or_set_other, get_or_append_left, get_or_push}
+use Rattle.std.proofs.lemmas.List.{length-set, length_push, get_or-set_same, get_or-set_other, get_or_append_left, get_or_push}
 use Rattle.std.proofs.lemmas.Bool.{cases_eq, cases_lt}
 use Rattle.charges.specs.declared.Row.{Row}
 use Rattle.charges.specs.Tree.{blank, row, with_own, with_quota as with_quota_in, with_reservation as with_reservation_in}
@@ -46,7 +46,7 @@ module _ (rs rs' : List Row) (ks ks' : List Kind) (cs cs' : List Contents) (long
         | inl e ↦
             ap (λ (k : ℕ). get_or (set ds v x) k nowhere) e ∙ get_or-set_same ds v x nowhere (omega (arith, datasets-length rs ks cs)) ∙ sym here
             ∙ ap (dataset_at rs' ks' cs') (sym e)
-        | inr ne ↦ get_or_set_other ds v d x nowhere ne ∙ datasets-at rs ks cs d lt ∙ sym (elsewhere d lt ne)
+        | inr ne ↦ get_or-set_other ds v d x nowhere ne ∙ datasets-at rs ks cs d lt ∙ sym (elsewhere d lt ne)
       ])
 
 dataset_eq : {p p' q q' r r' : ℕ} {k k' : Kind} {c c' : Contents} → p ≡ p' → q ≡ q' → r ≡ r' → k ≡ k' → c ≡ c' →
@@ -60,7 +60,7 @@ on_row r k c = record { parent = r.parent; quota = r.quota; reservation = r.rese
 
 module _ (rs : List Row) (ks : List Kind) (cs : List Contents) (v : ℕ) (lv : v < length rs) where
   row-elsewhere : (r : Row) (d : ℕ) → d ≢ v → dataset_at (set rs v r) ks cs d ≡ dataset_at rs ks cs d
-  row-elsewhere r d ne = ap (λ (x : Row). on_row x (kind_in ks d) (contents_at cs d)) (get_or_set_other rs v d r blank ne)
+  row-elsewhere r d ne = ap (λ (x : Row). on_row x (kind_in ks d) (contents_at cs d)) (get_or-set_other rs v d r blank ne)
 
   row_here : (r : Row) → dataset_at (set rs v r) ks cs v ≡ on_row r (kind_in ks v) (contents_at cs v)
   row_here r = ap (λ (x : Row). on_row x (kind_in ks v) (contents_at cs v)) (get_or-set_same rs v r blank lv)
@@ -93,7 +93,7 @@ module _ (rs : List Row) (ks : List Kind) (cs : List Contents) (v : ℕ) (lv : v
       datasets_in rs ks (set cs v c) ≡ set (datasets_in rs ks cs) v (holding (get_or (datasets_in rs ks cs) v nowhere) c)
   datasets-contents c lc =
       datasets-set rs rs ks ks cs (set cs v c) refl v _ lv
-      (λ d l ne. ap (on_row (row rs d) (kind_in ks d)) (get_or_set_other cs v d c no_contents ne))
+      (λ d l ne. ap (on_row (row rs d) (kind_in ks d)) (get_or-set_other cs v d c no_contents ne))
       (ap (on_row (row rs v) (kind_in ks v)) (get_or-set_same cs v c no_contents lc) ∙ ap (λ (x : Dataset). holding x c) (sym (datasets-at rs ks cs v lv)))
 
 -- a new dataset
@@ -112,7 +112,7 @@ datasets_push rs ks cs p k c as_many lc =
           get_or_append_left ds (x ∷ []) nowhere d (omega arith) ∙ datasets-at rs ks cs d lt
           ∙ ap (λ (r : Row). on_row r (kind_in ks d) (contents_at cs d)) (sym (get_or_append_left rs (child p ∷ []) blank d lt))
           ∙ ap (λ (y : Kind). on_row (row (rs ++ child p ∷ []) d) y (contents_at cs d)) (sym (get_or_append_left ks (k ∷ []) Folder d lk))
-          ∙ ap (on_row (row (rs ++ child p ∷ []) d) (kind_in (ks ++ k ∷ []) d)) (sym (get_or_set_other cs n d c no_contents ne))
+          ∙ ap (on_row (row (rs ++ child p ∷ []) d) (kind_in (ks ++ k ∷ []) d)) (sym (get_or-set_other cs n d c no_contents ne))
       | inr ge ↦
           let last : d ≡ n = omega (arith, length_push rs (child p)) in
           get_or_push ds x nowhere d (omega arith)

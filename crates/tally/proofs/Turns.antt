@@ -1,7 +1,7 @@
 -- A turn, dataset by dataset.
 use Rattle.std.proofs.Common.{◌≡◌, ℕ, zero, suc, ◌+◌, ◌-◌, ◌^◌, ◌<◌, ◌≤◌, Bool, true, false, cond, eqb, ltb, ◌≢◌, List, [], ◌∷◌, map, length, get_or, take, set, Ok, Err, sum_by, count_by, Result, sym, refl, ap, ◌∙◌, subst, inl, inr, add-one, arith}
-use Rattle.std.proofs.lemmas.List.{length-set, length-map, get_or_past, get_or-set_same, get_or_set_other, get_or-map, set-get_or, set_past, take_all, ext_get_or}
-use Rattle.std.proofs.lemmas.List.Sums.{sum_by-cons, sum_by_more, sum_by-take_le}
+use Rattle.std.proofs.lemmas.List.{length-set, length-map, get_or_past, get_or-set_same, get_or-set_other, get_or-map, set-get_or, set_past, take_all, ext_get_or}
+use Rattle.std.proofs.lemmas.List.Sums.{sum_by-cons, sum_by_more, sum_by-take-le}
 use Rattle.std.proofs.lemmas.Bool.{ltb-true, ltb-false, cases_eq, cases_lt}
 use Rattle.orders.specs.declared.answer.Answer.{Answer}
 use Rattle.orders.specs.declared.answer.Answer.TheVariants.{Done, Refused}
@@ -178,7 +178,7 @@ module _ (b : Book) where
   unfolding settled_to
   to_above zero d l = refl
   to_above (suc n) d l =
-      get_or_set_other (settled_to n b).datasets n d (settled_dataset (dataset (settled_to n b) n)) nowhere (λ e. omega arith) ∙ to_above n d (omega arith)
+      get_or-set_other (settled_to n b).datasets n d (settled_dataset (dataset (settled_to n b) n)) nowhere (λ e. omega arith) ∙ to_above n d (omega arith)
 
   to_below : (n d : ℕ) → d < n → d < made b → dataset (settled_to n b) d ≡ settled_dataset (dataset b d)
   unfolding settled_to
@@ -190,7 +190,7 @@ module _ (b : Book) where
         ∙ get_or-set_same (settled_to n b).datasets n (settled_dataset (dataset (settled_to n b) n)) nowhere lt
         ∙ ap settled_dataset (to_above n n (omega arith) ∙ ap (dataset b) (sym e))
     | inr ne ↦
-        get_or_set_other (settled_to n b).datasets n d (settled_dataset (dataset (settled_to n b) n)) nowhere ne ∙ to_below n d (omega arith) lm
+        get_or-set_other (settled_to n b).datasets n d (settled_dataset (dataset (settled_to n b) n)) nowhere ne ∙ to_below n d (omega arith) lm
   ]
 
   pub to_all : (F : Figures) (n : ℕ) → made b ≤ n → settled_to n b ≡ next F b turn
@@ -249,7 +249,7 @@ module _ (t t' : Tally) (n given : ℕ) (so_far : Turning t t' n given) (t'' : T
   }
 
   pub turning-fits : given + u ≤ t.size
-  turning-fits = omega (arith, step_sum, sum_by-take_le deferred_of (book_of t).datasets (n + 1), all_few t)
+  turning-fits = omega (arith, step_sum, sum_by-take-le deferred_of (book_of t).datasets (n + 1), all_few t)
 
 counted_by : (q : Bool) (f : LedgerFault) (a : Answer) → cond q a (Refused (refusal_of f)) ≡ and_then {X = Unit {0}} (cond q (Ok tt) (Err f)) (λ _. a)
 counted_by true f a = refl

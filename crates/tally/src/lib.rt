@@ -1,4 +1,6 @@
 // The book of a ledger: datasets with what they hold, and transactions, in fixed tables.
+#![tactic(auto)]
+
 ghost use Rattle.tally.specs.Sound.{Sized, Sound};
 
 use rules::state::{Contents, Transaction};

@@ -1,6 +1,6 @@
 -- A change on its way up, as a loop meets it: each turn leaves the same answer to come.
 use Rattle.std.proofs.Common.{◌≡◌, ℕ, zero, suc, ◌^◌, ◌<◌, min, eqb, ◌≢◌, List, [], ◌∷◌, length, get_or, take, set, ℤ, Some, None, sym, refl, ap, ◌∙◌, subst, inl, inr, arith}
-use Rattle.std.proofs.lemmas.List.{length-set, get_or-set_same, get_or_set_other, get_or-take, length-take}
+use Rattle.std.proofs.lemmas.List.{length-set, get_or-set_same, get_or-set_other, get_or-take, length-take}
 use Rattle.std.proofs.lemmas.Bool.{cases_lt, eq-eqb, ne_eqb, cond-true, cond-false}
 use Rattle.std.specs.List.{AllByRecursion as All}
 use Rattle.charges.specs.declared.Row.{Row}
@@ -49,7 +49,7 @@ stops d r x c e = elim (cases_lt 0 d) [
 spread-off : (rows : List Row) (ds : List ℕ) (c : ℤ) (kept : List ℕ) (k : ℕ) → All (λ e. e ≢ k) ds → get_or (spread rows ds c kept) k 0 ≡ get_or kept k 0
 unfolding spread
 spread-off rows [] c kept k all = refl
-spread-off rows (d ∷ ds) c kept k all = spread-off rows ds _ _ k all.1 ∙ get_or_set_other kept d k _ 0 (λ e. all.0 (sym e))
+spread-off rows (d ∷ ds) c kept k all = spread-off rows ds _ _ k all.1 ∙ get_or-set_other kept d k _ 0 (λ e. all.0 (sym e))
 
 -- the datasets above d all have smaller numbers
 above_less : (rows : List Row) → Rooted rows → (d : ℕ) → 0 < d → d < length rows → All (λ e. e ≢ d) (path rows (row rows d).parent)

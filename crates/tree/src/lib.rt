@@ -1,4 +1,6 @@
 // The datasets of a pool in a fixed table, with the charge of each kept beside its row.
+#![tactic(auto)]
+
 ghost use Rattle.charges.specs.Tree.{Rooted, WithinLimits};
 ghost use Rattle.tree.specs.Fields.{FreeRoot, InQuotas, Kept, Sized};
 ghost use Rattle.tree.specs.Tables.{Lengths, charges_in, kinds_in, rows_in};

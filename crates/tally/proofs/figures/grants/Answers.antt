@@ -1,6 +1,6 @@
 use Rattle.std.proofs.Common.{◌≡◌, ℕ, ◌+◌, ◌<◌, length, get_or, take, sum_by, sym, ap, ◌∙◌, arith}
 use Rattle.std.proofs.lemmas.List.{take_all}
-use Rattle.std.proofs.lemmas.List.Sums.{sum_by_more, sum_by-take_le}
+use Rattle.std.proofs.lemmas.List.Sums.{sum_by_more, sum_by-take-le}
 use Rattle.rules.specs.declared.state.Transaction.TheVariants.{Idle}
 use Rattle.tally.specs.Grants.{grant_by}
 use Rattle.tally.proofs.figures.grants.Goals as goal
@@ -13,7 +13,7 @@ overflow-add-sum c =
       arith,
       c.grant-sum.ensures,
       sum_by_more g c.args.transactions.now c.loop-state.state-index Idle lt,
-      sum_by-take_le g c.args.transactions.now (c.loop-state.state-index + 1),
+      sum_by-take-le g c.args.transactions.now (c.loop-state.state-index + 1),
     )
 
 pub loop-state-preserved : goal.loop-state-preserved

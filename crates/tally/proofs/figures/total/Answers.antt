@@ -1,6 +1,6 @@
 use Rattle.std.proofs.Common.{◌≡◌, ℕ, ◌+◌, ◌<◌, length, get_or, sum, sym, ap, ◌∙◌, arith}
 use Rattle.std.proofs.lemmas.List.{take_all}
-use Rattle.std.proofs.lemmas.List.Sums.{sum_by_more, sum_by-take_le}
+use Rattle.std.proofs.lemmas.List.Sums.{sum_by_more, sum_by-take-le}
 use Rattle.tally.proofs.figures.total.Goals as goal
 
 pub overflow-add-sum : goal.overflow-add-sum
@@ -9,7 +9,7 @@ overflow-add-sum c =
     omega (
       arith,
       sum_by_more (λ (x : ℕ). x) c.args.units.now c.loop-n.n-index 0 lt,
-      sum_by-take_le (λ (x : ℕ). x) c.args.units.now (c.loop-n.n-index + 1),
+      sum_by-take-le (λ (x : ℕ). x) c.args.units.now (c.loop-n.n-index + 1),
     )
 
 pub loop-n-preserved : goal.loop-n-preserved
