@@ -2,5 +2,5 @@
 use Rattle.figure_table.proofs.Readings.{outcome-accepted}
 use Rattle.figure_table.proofs.read.outcome.Goals as goal
 
-pub returns-in-default : goal.returns-in-default
-returns-in-default c = outcome-accepted c.first-word.ensures c.in-default.not-cost c.in-default.not-refused
+pub returns-in_default : goal.returns-in_default
+returns-in_default c = outcome-accepted c.first_word.ensures c.in_default.not-cost c.in_default.not-refused

@@ -2,5 +2,5 @@
 use Rattle.figure_table.proofs.Readings.{policy-parity}
 use Rattle.figure_table.proofs.read.policy.Goals as goal
 
-pub returns-in-default : goal.returns-in-default
-returns-in-default c = policy-parity _ _ c.first-word.ensures c.in-default.not-copies c.byte-p.ensures c.byte-w.ensures
+pub returns-in_default : goal.returns-in_default
+returns-in_default c = policy-parity _ _ c.first_word.ensures c.in_default.not-copies c.byte-p.ensures c.byte-w.ensures

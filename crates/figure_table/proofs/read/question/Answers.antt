@@ -2,5 +2,5 @@
 use Rattle.figure_table.proofs.Readings.{question-make}
 use Rattle.figure_table.proofs.read.question.Goals as goal
 
-pub returns-in-default : goal.returns-in-default
-returns-in-default c = question-make c.first-word.ensures c.in-default.not-size c.in-default.not-worst
+pub returns-in_default : goal.returns-in_default
+returns-in_default c = question-make c.first_word.ensures c.in_default.not-size c.in_default.not-worst

@@ -2,4 +2,4 @@
 use Rattle.figure_table.proofs.report.verdict_text.Goals as goal
 
 pub returns-in-Unreadable : goal.returns-in-Unreadable
-returns-in-Unreadable c = rw c.in-Unreadable.is c.from-str.ensures.ok
+returns-in-Unreadable c = rw c.in-Unreadable.is c.from_str.ensures.ok

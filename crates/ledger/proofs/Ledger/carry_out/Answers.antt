@@ -49,12 +49,12 @@ returns-in-Begin g c =
 pub returns-in-HoldWrites : goal.returns-in-HoldWrites
 returns-in-HoldWrites g c =
     as_order g.A.Allocator.units g.A.Allocator.wellmade g.A.Allocator.lent g.P.CostPolicy.cost g.P.CostPolicy.worst
-    c.args.self.now c.hold-writes.new.self c.args.order _ _ c.in-HoldWrites.is c.hold-writes.ensures
+    c.args.self.now c.hold_writes.new.self c.args.order _ _ c.in-HoldWrites.is c.hold_writes.ensures
 
 pub returns-in-HoldFrees : goal.returns-in-HoldFrees
 returns-in-HoldFrees g c =
     as_order g.A.Allocator.units g.A.Allocator.wellmade g.A.Allocator.lent g.P.CostPolicy.cost g.P.CostPolicy.worst
-    c.args.self.now c.hold-frees.new.self c.args.order _ _ c.in-HoldFrees.is c.hold-frees.ensures
+    c.args.self.now c.hold_frees.new.self c.args.order _ _ c.in-HoldFrees.is c.hold_frees.ensures
 
 pub returns-in-Assign : goal.returns-in-Assign
 returns-in-Assign g c =

@@ -11,10 +11,10 @@ returns g c =
     let C = g.P.CostPolicy.cost in
     let X = g.P.CostPolicy.worst in
     let l = c.args.self.now in
-    let l' = c.carry-out.new.self in
+    let l' = c.carry_out.new.self in
     let m = meaning c.args.order in
-    let a = answer_of c.carry-out.result in
-    let d = c.carry-out.ensures in
+    let a = answer_of c.carry_out.result in
+    let d = c.carry_out.ensures in
     record {
       sound = laws.sound' U W L C X l l' m a c.requires d;
       law = laws.law U W L C X l l' m a c.requires d;

@@ -9,18 +9,18 @@ unreachable-requires g c =
     moves.size_fits g.A.Allocator.units g.A.Allocator.wellmade g.A.Allocator.lent g.P.CostPolicy.cost g.P.CostPolicy.worst
     c.args.self.now c.args.t c.args.number c.args.size c.args.volume _ c.requires.sound c.requires.accepts.answered
     c.requires.accepts.volume_is refl in
-    let large : 16 < c.args.size = c.in-default.ensures.0 in
+    let large : 16 < c.args.size = c.in_default.ensures.0 in
     omega arith
 
 -- a write that is accepted finds its units
-pub unreachable-requires-in-default-take : goal.unreachable-requires-in-default-take
-unreachable-requires-in-default-take g c =
+pub unreachable-requires-in_default-take : goal.unreachable-requires-in_default-take
+unreachable-requires-in_default-take g c =
     let found = moves.finds-units g.A.Allocator.units g.A.Allocator.wellmade g.A.Allocator.lent g.P.CostPolicy.cost g.P.CostPolicy.worst
     c.args.self.now c.args.t c.args.number c.args.size c.args.volume c.in-Ok.cost c.requires.sound c.requires.accepts.answered
     c.requires.accepts.volume_is c.in-Ok.ensures.1
     c.defer.new.self c.defer.ensures.kept in
     let a = c.take.ensures.answered in
-    let b = c.in-default-take.is in
+    let b = c.in_default-take.is in
     let z : ◌≡◌ {A = ℕ} 0 1 = cc in
     omega arith
 

@@ -4,10 +4,10 @@ use Rattle.ledger.proofs.making.any_out.Goals as goal
 
 pub loop-unit-preserved : goal.loop-unit-preserved
 loop-unit-preserved g c =
-    below_more (λ k. get_or (g.A.Allocator.units c.args.pool.now) k false ≡ false) c.loop-unit.unit c.loop-unit.invariant (sym c.if-is-out.ensures)
+    below_more (λ k. get_or (g.A.Allocator.units c.args.pool.now) k false ≡ false) c.loop-unit.unit c.loop-unit.invariant (sym c.if-is_out.ensures)
 
-pub returns-then-is-out : goal.returns-then-is-out
-returns-then-is-out g c = sym (one_out (g.A.Allocator.units c.args.pool.now) c.loop-unit.unit (sym c.if-is-out.ensures))
+pub returns-then-is_out : goal.returns-then-is_out
+returns-then-is_out g c = sym (one_out (g.A.Allocator.units c.args.pool.now) c.loop-unit.unit (sym c.if-is_out.ensures))
 
 pub returns : goal.returns
 returns g c = sym (none_out (g.A.Allocator.units c.args.pool.now) (λ k h. c.loop-unit.invariant k (omega arith)))

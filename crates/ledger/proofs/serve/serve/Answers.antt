@@ -8,16 +8,16 @@ use Rattle.ledger.proofs.serve.serve.Goals as goal
 pub make-ledger-requires : goal.make-ledger-requires
 make-ledger-requires g c = record { wellmade = c.requires; checked = serving.made_ok _ _ c.in-Ok.ensures }
 
-pub obey-all-requires : goal.obey-all-requires
-obey-all-requires g c = record { sound = c.make-ledger.ensures.sound; places = serving.places_ok _ _ _ c.in-Ok.ensures }
+pub obey_all-requires : goal.obey_all-requires
+obey_all-requires g c = record { sound = c.make-ledger.ensures.sound; places = serving.places_ok _ _ _ c.in-Ok.ensures }
 
 pub returns-in-Ok : goal.returns-in-Ok
 returns-in-Ok g c =
     let us = g.A.Allocator.units c.args.pool in
-    let o = c.obey-all.ensures in (
+    let o = c.obey_all.ensures in (
       ap (λ (n : ℕ). serve_answer c.args.slop us n (length c.args.answers.now)) (length-map c.args.orders.now meaning) ∙ sym c.in-Ok.ensures,
       serving.all-served g.A.Allocator.units g.A.Allocator.wellmade g.A.Allocator.lent g.P.CostPolicy.cost g.P.CostPolicy.worst
-          c.make-ledger.result c.obey-all.new.ledger c.args.pool c.args.policy c.args.slop c.args.orders.now c.args.answers.now c.obey-all.new.answers
+          c.make-ledger.result c.obey_all.new.ledger c.args.pool c.args.policy c.args.slop c.args.orders.now c.args.answers.now c.obey_all.new.answers
           c.make-ledger.ensures.made c.make-ledger.ensures.stands o.sound o.through o.answered,
     )
 

@@ -11,9 +11,9 @@ loop-i-preserved g c =
 
 pub returns-in-Err : goal.returns-in-Err
 returns-in-Err g c = record {
-  keeps = c.give-back.ensures.keeps;
-  lent = c.give-back.ensures.lent ∙ c.take.ensures.lent ∙ c.loop-i.invariant.3;
-  filled = refusing _ (g.A.Allocator.units c.loop-i.pool) _ _ c.args.list.now c.loop-i.list _ c.loop-i.i _ (omega arith) c.loop-i.auto.list c.loop-i.invariant.1 c.loop-i.invariant.2 c.in-Err.ensures.took c.give-back.ensures.units c.give-back.ensures.list;
+  keeps = c.give_back.ensures.keeps;
+  lent = c.give_back.ensures.lent ∙ c.take.ensures.lent ∙ c.loop-i.invariant.3;
+  filled = refusing _ (g.A.Allocator.units c.loop-i.pool) _ _ c.args.list.now c.loop-i.list _ c.loop-i.i _ (omega arith) c.loop-i.auto.list c.loop-i.invariant.1 c.loop-i.invariant.2 c.in-Err.ensures.took c.give_back.ensures.units c.give_back.ensures.list;
 }
 
 pub returns : goal.returns

@@ -4,10 +4,10 @@ use Rattle.orders.specs.Meaning.{meaning}
 use Rattle.runner.proofs.Ones.{one}
 use Rattle.runner.proofs.run.obey.Goals as goal
 
-pub returns-in-err-reply : goal.returns-in-err-reply
-returns-in-err-reply g c =
-    let p = err_from_is_err_and c.from-residual.result c.from-residual.ensures.1 in
-    let o = c.in-err-reply.ensures in
+pub returns-in_err-reply : goal.returns-in_err-reply
+returns-in_err-reply g c =
+    let p = err_from_is_err_and c.from_residual.result c.from_residual.ensures.1 in
+    let o = c.in_err-reply.ensures in
     rw (p.1, p.2)
     (record {
       one =
@@ -18,7 +18,7 @@ returns-in-err-reply g c =
 
 pub returns : goal.returns
 returns g c =
-    let o = c.in-ok-reply.ensures in
+    let o = c.in_ok-reply.ensures in
     record {
       one =
           one g.A.Allocator.units g.A.Allocator.wellmade g.A.Allocator.lent g.P.CostPolicy.cost g.P.CostPolicy.worst

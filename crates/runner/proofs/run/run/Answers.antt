@@ -21,52 +21,52 @@ orders-init g c =
       subst (λ (p : ℕ). running.Running U W L C X l l s out p 0 0 out) (sym c.new-reader.ensures.start) (running.begins U W L C X l s out c.requires),
     )
 
-pub returns-then-script-gt-LONGEST-SCRIPT : goal.returns-then-script-gt-LONGEST-SCRIPT
-returns-then-script-gt-LONGEST-SCRIPT g c =
+pub returns-then-script-gt-LONGEST_SCRIPT : goal.returns-then-script-gt-LONGEST_SCRIPT
+returns-then-script-gt-LONGEST_SCRIPT g c =
     let f = running.too_long g.A.Allocator.units g.A.Allocator.wellmade g.A.Allocator.lent g.P.CostPolicy.cost g.P.CostPolicy.worst
-    c.args.ledger.now c.args.script.now c.args.answers.now c.requires c.if-script-gt-LONGEST-SCRIPT.true in
+    c.args.ledger.now c.args.script.now c.args.answers.now c.requires c.if-script-gt-LONGEST_SCRIPT.true in
     record { sound = f.sound; ended = f.ended_so; bytes = f.bytes_so; within = f.within_so; through = f.through }
 
 pub returns-in-Err : goal.returns-in-Err
 returns-in-Err g c =
     let f = running.faults_there g.A.Allocator.units g.A.Allocator.wellmade g.A.Allocator.lent g.P.CostPolicy.cost g.P.CostPolicy.worst
     c.args.ledger.now c.orders.ledger c.args.script.now (script_of c.orders.reader) c.args.answers.now (place_of c.orders.reader) c.place-place.result
-    c.orders.answered c.orders.written c.orders.answers c.orders.invariant.0 c.place-place.ensures c.if-script-gt-LONGEST-SCRIPT.false c.orders.invariant.1
+    c.orders.answered c.orders.written c.orders.answers c.orders.invariant.0 c.place-place.ensures c.if-script-gt-LONGEST_SCRIPT.false c.orders.invariant.1
     c.in-Err.fault c.in-Err.ensures.value.0 in
     record { sound = f.sound; ended = f.ended_so; bytes = f.bytes_so; within = f.within_so; through = f.through }
 
 pub returns-in-None : goal.returns-in-None
 returns-in-None g c =
-    let value = subst (λ (o : Option Order). ReadOne (script_of c.orders.reader) (place_of c.orders.reader) (place_of c.next-order.new.self) (Ok o)) c.in-None.is c.in-Ok.ensures.value in
+    let value = subst (λ (o : Option Order). ReadOne (script_of c.orders.reader) (place_of c.orders.reader) (place_of c.next_order.new.self) (Ok o)) c.in-None.is c.in-Ok.ensures.value in
     let f = running.ends_there g.A.Allocator.units g.A.Allocator.wellmade g.A.Allocator.lent g.P.CostPolicy.cost g.P.CostPolicy.worst
     c.args.ledger.now c.orders.ledger c.args.script.now (script_of c.orders.reader) c.args.answers.now (place_of c.orders.reader) c.place-place.result
-    c.orders.answered c.orders.written c.orders.answers c.orders.invariant.0 c.place-place.ensures c.if-script-gt-LONGEST-SCRIPT.false c.orders.invariant.1
+    c.orders.answered c.orders.written c.orders.answers c.orders.invariant.0 c.place-place.ensures c.if-script-gt-LONGEST_SCRIPT.false c.orders.invariant.1
     value.0 in
     record { sound = f.sound; ended = f.ended_so; bytes = f.bytes_so; within = f.within_so; through = f.through }
 
-pub returns-then-answers-written-lt-LONGEST-ANSWER : goal.returns-then-answers-written-lt-LONGEST-ANSWER
-returns-then-answers-written-lt-LONGEST-ANSWER g c =
-    let less : length c.args.answers.now < c.orders.written + 17 = omega (arith, c.if-answers-written-lt-LONGEST-ANSWER.true, c.orders.auto.answers) in
+pub returns-then-answers-written-lt-LONGEST_ANSWER : goal.returns-then-answers-written-lt-LONGEST_ANSWER
+returns-then-answers-written-lt-LONGEST_ANSWER g c =
+    let less : length c.args.answers.now < c.orders.written + 17 = omega (arith, c.if-answers-written-lt-LONGEST_ANSWER.true, c.orders.auto.answers) in
     let f = running.lacks_room g.A.Allocator.units g.A.Allocator.wellmade g.A.Allocator.lent g.P.CostPolicy.cost g.P.CostPolicy.worst
     c.args.ledger.now c.orders.ledger c.args.script.now (script_of c.orders.reader) c.args.answers.now (place_of c.orders.reader) c.place-place.result
-    c.orders.answered c.orders.written c.orders.answers c.orders.invariant.0 c.place-place.ensures c.if-script-gt-LONGEST-SCRIPT.false c.orders.invariant.1
-    c.in-Ok.next c.in-Some.order (place_of c.next-order.new.self) c.in-Some.is c.in-Ok.ensures.value less in
+    c.orders.answered c.orders.written c.orders.answers c.orders.invariant.0 c.place-place.ensures c.if-script-gt-LONGEST_SCRIPT.false c.orders.invariant.1
+    c.in-Ok.next c.in-Some.order (place_of c.next_order.new.self) c.in-Some.is c.in-Ok.ensures.value less in
     record { sound = f.sound; ended = f.ended_so; bytes = f.bytes_so; within = f.within_so; through = f.through }
 
-pub overflow-add-written : goal.overflow-add-written
-overflow-add-written g c =
-    let o = c.answer-order-written.ensures in
-    omega (arith, c.if-answers-written-lt-LONGEST-ANSWER.false, c.orders.auto.answers, c.orders.invariant.1.going.fits, o.count, short _ o.one.proper)
+pub overflow_add-written : goal.overflow_add-written
+overflow_add-written g c =
+    let o = c.answer_order-written.ensures in
+    omega (arith, c.if-answers-written-lt-LONGEST_ANSWER.false, c.orders.auto.answers, c.orders.invariant.1.going.fits, o.count, short _ o.one.proper)
 
 pub orders-preserved : goal.orders-preserved
 orders-preserved g c =
     let room : c.orders.written + 17 ≤ length c.args.answers.now =
-    omega (arith, c.if-answers-written-lt-LONGEST-ANSWER.false, c.orders.auto.answers, c.orders.invariant.1.going.fits) in
-    let o = c.answer-order-written.ensures in
+    omega (arith, c.if-answers-written-lt-LONGEST_ANSWER.false, c.orders.auto.answers, c.orders.invariant.1.going.fits) in
+    let o = c.answer_order-written.ensures in
     let r = running.goes g.A.Allocator.units g.A.Allocator.wellmade g.A.Allocator.lent g.P.CostPolicy.cost g.P.CostPolicy.worst
     c.args.ledger.now c.orders.ledger c.args.script.now (script_of c.orders.reader) c.args.answers.now (place_of c.orders.reader) c.place-place.result
-    c.orders.answered c.orders.written c.orders.answers c.orders.invariant.0 c.place-place.ensures c.if-script-gt-LONGEST-SCRIPT.false c.orders.invariant.1
-    c.in-Ok.next c.in-Some.order (place_of c.next-order.new.self) c.in-Some.is c.in-Ok.ensures.value c.answer-order-written.new.ledger c.answer-order-written.result c.answer-order-written.new.answers
+    c.orders.answered c.orders.written c.orders.answers c.orders.invariant.0 c.place-place.ensures c.if-script-gt-LONGEST_SCRIPT.false c.orders.invariant.1
+    c.in-Ok.next c.in-Some.order (place_of c.next_order.new.self) c.in-Some.is c.in-Ok.ensures.value c.answer_order-written.new.ledger c.answer_order-written.result c.answer_order-written.new.answers
     c.in-Ok.ensures.forward room o.one o.count o.bytes in
     (c.in-Ok.ensures.same ∙ c.orders.invariant.0, r)
 
@@ -74,6 +74,6 @@ pub orders-smaller : goal.orders-smaller
 orders-smaller g c =
     let on = running.ahead g.A.Allocator.units g.A.Allocator.wellmade g.A.Allocator.lent g.P.CostPolicy.cost g.P.CostPolicy.worst
     c.args.ledger.now c.orders.ledger c.args.script.now (script_of c.orders.reader) c.args.answers.now (place_of c.orders.reader) c.place-place.result
-    c.orders.answered c.orders.written c.orders.answers c.orders.invariant.0 c.place-place.ensures c.if-script-gt-LONGEST-SCRIPT.false c.orders.invariant.1
-    c.in-Ok.next c.in-Some.order (place_of c.next-order.new.self) c.in-Some.is c.in-Ok.ensures.value c.in-Ok.ensures.forward in
+    c.orders.answered c.orders.written c.orders.answers c.orders.invariant.0 c.place-place.ensures c.if-script-gt-LONGEST_SCRIPT.false c.orders.invariant.1
+    c.in-Ok.next c.in-Some.order (place_of c.next_order.new.self) c.in-Some.is c.in-Ok.ensures.value c.in-Ok.ensures.forward in
     omega (arith, on.0, on.1)

@@ -1,8 +1,8 @@
 use Rattle.setup.proofs.Runs as runs
 use Rattle.setup.proofs.calls.run_on_bitmap.Goals as goal
 
-pub run-under-requires : goal.run-under-requires
-run-under-requires c =
+pub run_under-requires : goal.run_under-requires
+run_under-requires c =
     let fit = c.in-Ok.ensures in
     record { wellmade = c.make-bits.ensures.made; checked = runs.checks c.args.slop c.args.units _ c.make-bits.ensures.units fit.1; fits = fit.2 }
 
@@ -14,8 +14,8 @@ returns-in-Ok c =
         fit.0,
         fit.1,
         fit.2,
-        runs.ran_over c.args.units c.args.slop c.args.scheme c.args.script.now c.args.answers.now c.run-under.new.answers _ _ c.run-under.result.0
-            c.make-bits.ensures.units c.run-under.ensures.ran,
+        runs.ran_over c.args.units c.args.slop c.args.scheme c.args.script.now c.args.answers.now c.run_under.new.answers _ _ c.run_under.result.0
+            c.make-bits.ensures.units c.run_under.ensures.ran,
       );
       unwritten = tt;
     }

@@ -9,8 +9,8 @@ make-pair-requires c =
     let h = c.make-chain.ensures in
     (b.made, (h.made, runs.both_few _ _ (get_or c.args.units 0 0) (get_or c.args.units 1 0) b.units h.units fit.0.few))
 
-pub run-under-requires : goal.run-under-requires
-run-under-requires c =
+pub run_under-requires : goal.run_under-requires
+run_under-requires c =
     let fit = c.in-Ok.ensures in
     let m = get_or c.args.units 0 0 in
     let n = get_or c.args.units 1 0 in
@@ -32,8 +32,8 @@ returns-in-Ok c =
         fit.0,
         fit.1,
         fit.2,
-        runs.ran_over (m + n) c.args.slop c.args.scheme c.args.script.now c.args.answers.now c.run-under.new.answers _ _ c.run-under.result.0
-            (p.units ∙ runs.both_in _ _ m n c.make-bits.ensures.units c.make-chain.ensures.units) c.run-under.ensures.ran,
+        runs.ran_over (m + n) c.args.slop c.args.scheme c.args.script.now c.args.answers.now c.run_under.new.answers _ _ c.run_under.result.0
+            (p.units ∙ runs.both_in _ _ m n c.make-bits.ensures.units c.make-chain.ensures.units) c.run_under.ensures.ran,
       );
       memory = tt;
       links = tt;

@@ -4,22 +4,22 @@ use Rattle.setup.proofs.calls.run_under.Goals as goal
 
 pub returns-in-Copies : goal.returns-in-Copies
 returns-in-Copies g c =
-    let r = c.run-over.ensures in
+    let r = c.run_over.ensures in
     let same = runs.copies_plan c.in-Copies.n c.make.result.n (length (g.A.Allocator.units c.args.pool)) c.args.slop c.args.scheme c.make.ensures c.in-Copies.is in
     record {
-      ran = runs.planned-run _ _ c.args.script.now c.args.answers.now c.run-over.new.answers (g.A.Allocator.units c.run-over.result.1) c.run-over.result.0 same r.ran;
+      ran = runs.planned-run _ _ c.args.script.now c.args.answers.now c.run_over.new.answers (g.A.Allocator.units c.run_over.result.1) c.run_over.result.0 same r.ran;
       keeps = r.keeps;
       lent = r.lent;
     }
 
 pub returns-in-Parity : goal.returns-in-Parity
 returns-in-Parity g c =
-    let r = c.run-over-in-Parity.ensures in
+    let r = c.run_over-in-Parity.ensures in
     let m = c.make-in-Parity.result in
     let same = runs.parity_plan c.in-Parity.p c.in-Parity.w m.p m.w (length (g.A.Allocator.units c.args.pool)) c.args.slop c.args.scheme c.make-in-Parity.ensures c.in-Parity.is in
     record {
       ran =
-          runs.planned-run _ _ c.args.script.now c.args.answers.now c.run-over-in-Parity.new.answers (g.A.Allocator.units c.run-over-in-Parity.result.1) c.run-over-in-Parity.result.0
+          runs.planned-run _ _ c.args.script.now c.args.answers.now c.run_over-in-Parity.new.answers (g.A.Allocator.units c.run_over-in-Parity.result.1) c.run_over-in-Parity.result.0
           same r.ran;
       keeps = r.keeps;
       lent = r.lent;

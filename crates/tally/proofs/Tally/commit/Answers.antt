@@ -6,25 +6,25 @@ use Rattle.tally.proofs.Tally.commit.Goals as goal
 
 pub estimate-units-requires : goal.estimate-units-requires
 estimate-units-requires c =
-    let f = commit-few c.args.self.now c.args.t c.in-ok-change.change (sym c.in-ok-change.ensures) in
-    record { few = omega (arith, c.writes-of.ensures); cheap = omega (arith, c.args.self.now.sized) }
+    let f = commit-few c.args.self.now c.args.t c.in_ok-change.change (sym c.in_ok-change.ensures) in
+    record { few = omega (arith, c.writes_of.ensures); cheap = omega (arith, c.args.self.now.sized) }
 
 pub returns-in-Err : goal.returns-in-Err
 returns-in-Err c =
     let ok =
-    commit_lowers c.args.self.now c.args.t c.in-ok-change.change (sym c.in-ok-change.ensures)
-    c.volume-of.result c.estimate-units.result c.volume-of.ensures
-    (c.estimate-units.ensures ∙ ap (λ w. w * c.args.self.now.worst) c.writes-of.ensures) in
+    commit_lowers c.args.self.now c.args.t c.in_ok-change.change (sym c.in_ok-change.ensures)
+    c.volume_of.result c.estimate-units.result c.volume_of.ensures
+    (c.estimate-units.ensures ∙ ap (λ w. w * c.args.self.now.worst) c.writes_of.ensures) in
     ok_not_err tt c.in-Err.fault (sym ok ∙ sym c.in-Err.ensures.answer)
 
-pub invariant-of-self-2 : goal.invariant-of-self-2
-invariant-of-self-2 c = (
+pub invariant_of-self-2 : goal.invariant_of-self-2
+invariant_of-self-2 c = (
   c.args.self.now.sized,
   (
-    commit-sound c.args.self.now c.args.t c.in-ok-change.change (sym c.in-ok-change.ensures)
-        c.volume-of.result c.estimate-units.result c.volume-of.ensures
-        (c.estimate-units.ensures ∙ ap (λ w. w * c.args.self.now.worst) c.writes-of.ensures)
-        c.lower.new.self c.in-default.ensures.after,
+    commit-sound c.args.self.now c.args.t c.in_ok-change.change (sym c.in_ok-change.ensures)
+        c.volume_of.result c.estimate-units.result c.volume_of.ensures
+        (c.estimate-units.ensures ∙ ap (λ w. w * c.args.self.now.worst) c.writes_of.ensures)
+        c.lower.new.self c.in_default.ensures.after,
     tt,
   ),
 )
@@ -32,11 +32,11 @@ invariant-of-self-2 c = (
 pub returns : goal.returns
 returns c =
     done_did c.args.self.now _ _ c.estimate-units.result
-    (commit-done c.args.self.now c.args.t c.in-ok-change.change (sym c.in-ok-change.ensures)
-    c.volume-of.result c.estimate-units.result c.volume-of.ensures
-    (c.estimate-units.ensures ∙ ap (λ w. w * c.args.self.now.worst) c.writes-of.ensures))
-    (commit-book c.args.self.now c.args.t c.in-ok-change.change (sym c.in-ok-change.ensures)
-    c.volume-of.result c.estimate-units.result c.volume-of.ensures
-    (c.estimate-units.ensures ∙ ap (λ w. w * c.args.self.now.worst) c.writes-of.ensures)
-    c.lower.new.self c.in-default.ensures.after)
+    (commit-done c.args.self.now c.args.t c.in_ok-change.change (sym c.in_ok-change.ensures)
+    c.volume_of.result c.estimate-units.result c.volume_of.ensures
+    (c.estimate-units.ensures ∙ ap (λ w. w * c.args.self.now.worst) c.writes_of.ensures))
+    (commit-book c.args.self.now c.args.t c.in_ok-change.change (sym c.in_ok-change.ensures)
+    c.volume_of.result c.estimate-units.result c.volume_of.ensures
+    (c.estimate-units.ensures ∙ ap (λ w. w * c.args.self.now.worst) c.writes_of.ensures)
+    c.lower.new.self c.in_default.ensures.after)
     (record { size = refl; slop = refl; worst = refl })

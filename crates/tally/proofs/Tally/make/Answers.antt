@@ -2,8 +2,8 @@ use Rattle.std.proofs.Common.{refl}
 use Rattle.tally.proofs.Makes.{fresh-book, fresh-sound}
 use Rattle.tally.proofs.Tally.make.Goals as goal
 
-pub invariant-of-result : goal.invariant-of-result
-invariant-of-result c = (
+pub invariant_of-result : goal.invariant_of-result
+invariant_of-result c = (
   c.requires,
   (
     fresh-sound c.make.result c.room.result c.make.ensures c.empty.result c.empty.ensures c.args.size c.args.slop c.args.worst c.room.ensures,

@@ -4,28 +4,28 @@ use Rattle.tally.proofs.Sounds.{unmoved, refused_as, done_did}
 use Rattle.tally.proofs.Settings.{quota-refused, quota-done, quota-book, quota-still}
 use Rattle.tally.proofs.Tally.quota.Goals as goal
 
-pub invariant-of-self : goal.invariant-of-self
-invariant-of-self c = (
+pub invariant_of-self : goal.invariant_of-self
+invariant_of-self c = (
   c.args.self.now.sized,
   (
-    quota-still c.args.self.now c.args.d c.args.units c.set-quota.new.self c.set-quota.result c.set-quota.ensures.answer
-        c.set-quota.ensures.after (omega arith),
+    quota-still c.args.self.now c.args.d c.args.units c.set_quota.new.self c.set_quota.result c.set_quota.ensures.answer
+        c.set_quota.ensures.after (omega arith),
     tt,
   ),
 )
 
-pub returns-in-err-charge : goal.returns-in-err-charge
-returns-in-err-charge c =
-    let p = err_from_is_err_and c.from-residual.result c.from-residual.ensures.1 in
+pub returns-in_err-charge : goal.returns-in_err-charge
+returns-in_err-charge c =
+    let p = err_from_is_err_and c.from_residual.result c.from_residual.ensures.1 in
     rw p.1
     (refused_as _ _ _ p.0 _ p.2
-    (quota-refused c.args.self.now c.args.d c.args.units _ c.in-err-charge.field-0.0 (sym c.in-err-charge.ensures.answer)
-    (unmoved c.args.self.now _ refl refl refl c.in-err-charge.ensures.after refl refl)))
+    (quota-refused c.args.self.now c.args.d c.args.units _ c.in_err-charge.field-0.0 (sym c.in_err-charge.ensures.answer)
+    (unmoved c.args.self.now _ refl refl refl c.in_err-charge.ensures.after refl refl)))
 
 pub returns : goal.returns
 returns c =
-    done_did c.args.self.now _ _ c.in-ok-charge.charge
-    (quota-done c.args.self.now c.args.d c.args.units c.in-ok-charge.charge (sym c.in-ok-charge.ensures.answer))
-    (quota-book c.args.self.now c.args.d c.args.units c.in-ok-charge.charge (sym c.in-ok-charge.ensures.answer)
-    c.set-quota.new.self c.in-ok-charge.ensures.after)
+    done_did c.args.self.now _ _ c.in_ok-charge.charge
+    (quota-done c.args.self.now c.args.d c.args.units c.in_ok-charge.charge (sym c.in_ok-charge.ensures.answer))
+    (quota-book c.args.self.now c.args.d c.args.units c.in_ok-charge.charge (sym c.in_ok-charge.ensures.answer)
+    c.set_quota.new.self c.in_ok-charge.ensures.after)
     (record { size = refl; slop = refl; worst = refl })

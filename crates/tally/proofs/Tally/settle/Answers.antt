@@ -16,21 +16,21 @@ returns-in-Err c =
           ∙ sym (none-settled (book_of c.args.self.now) c.args.d past);
     }
 
-pub invariant-of-self-2 : goal.invariant-of-self-2
-invariant-of-self-2 c = (
+pub invariant_of-self-2 : goal.invariant_of-self-2
+invariant_of-self-2 c = (
   c.args.self.now.sized,
   (
-    settle-sound c.args.self.now c.args.d (there-listed c.args.self.now c.args.d (sym c.in-default.ensures.answer)) _ refl
-        c.lower.new.self c.in-default.ensures.after _ refl,
+    settle-sound c.args.self.now c.args.d (there-listed c.args.self.now c.args.d (sym c.in_default.ensures.answer)) _ refl
+        c.lower.new.self c.in_default.ensures.after _ refl,
     tt,
   ),
 )
 
 pub returns : goal.returns
 returns c =
-    let l = there-listed c.args.self.now c.args.d (sym c.in-default.ensures.answer) in
+    let l = there-listed c.args.self.now c.args.d (sym c.in_default.ensures.answer) in
     record {
       same = record { size = refl; slop = refl; worst = refl };
-      units_are = settle-units c.args.self.now c.args.d l _ refl c.lower.new.self c.in-default.ensures.after _ refl;
-      booked = settle-book c.args.self.now c.args.d l _ refl c.lower.new.self c.in-default.ensures.after _ refl;
+      units_are = settle-units c.args.self.now c.args.d l _ refl c.lower.new.self c.in_default.ensures.after _ refl;
+      booked = settle-book c.args.self.now c.args.d l _ refl c.lower.new.self c.in_default.ensures.after _ refl;
     }

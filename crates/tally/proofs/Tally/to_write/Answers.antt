@@ -3,24 +3,24 @@ use Rattle.std.proofs.lemmas.Result.{err_from_is_err_and}
 use Rattle.tally.proofs.Writes.{write_table, write_no_record, write_too_large, write_accepts}
 use Rattle.tally.proofs.Tally.to_write.Goals as goal
 
-pub check-record-requires : goal.check-record-requires
-check-record-requires c =
-    write_table c.args.self.now c.args.t c.args.number c.in-ok-change.change (sym c.in-ok-change.ensures)
-    c.volume-of-volume.result c.volume-of-volume.ensures
+pub check_record-requires : goal.check_record-requires
+check_record-requires c =
+    write_table c.args.self.now c.args.t c.args.number c.in_ok-change.change (sym c.in_ok-change.ensures)
+    c.volume_of-volume.result c.volume_of-volume.ensures
 
-pub returns-in-err-check-record : goal.returns-in-err-check-record
-returns-in-err-check-record c =
-    let p = err_from_is_err_and c.from-residual-in-err-check-record.result c.from-residual-in-err-check-record.ensures.1 in
+pub returns-in_err-check_record : goal.returns-in_err-check_record
+returns-in_err-check_record c =
+    let p = err_from_is_err_and c.from_residual-in_err-check_record.result c.from_residual-in_err-check_record.ensures.1 in
     rw (p.1, p.2)
-    (write_no_record c.args.self.now c.args.t c.args.number c.in-ok-change.change (sym c.in-ok-change.ensures)
-    c.volume-of-volume.result c.volume-of-volume.ensures c.in-err-check-record.field-0.0 (sym c.in-err-check-record.ensures) c.args.size)
+    (write_no_record c.args.self.now c.args.t c.args.number c.in_ok-change.change (sym c.in_ok-change.ensures)
+    c.volume_of-volume.result c.volume_of-volume.ensures c.in_err-check_record.field-0.0 (sym c.in_err-check_record.ensures) c.args.size)
 
 pub returns-then-size-gt-LARGEST : goal.returns-then-size-gt-LARGEST
 returns-then-size-gt-LARGEST c =
-    write_too_large c.args.self.now c.args.t c.args.number c.in-ok-change.change (sym c.in-ok-change.ensures)
-    c.volume-of-volume.result c.volume-of-volume.ensures (sym c.in-ok-check-record.ensures) c.args.size c.if-size-gt-LARGEST.true
+    write_too_large c.args.self.now c.args.t c.args.number c.in_ok-change.change (sym c.in_ok-change.ensures)
+    c.volume_of-volume.result c.volume_of-volume.ensures (sym c.in_ok-check_record.ensures) c.args.size c.if-size-gt-LARGEST.true
 
 pub returns : goal.returns
 returns c =
-    write_accepts c.args.self.now c.args.t c.args.number c.in-ok-change.change (sym c.in-ok-change.ensures)
-    c.volume-of-volume.result c.volume-of-volume.ensures (sym c.in-ok-check-record.ensures) c.args.size c.if-size-gt-LARGEST.false
+    write_accepts c.args.self.now c.args.t c.args.number c.in_ok-change.change (sym c.in_ok-change.ensures)
+    c.volume_of-volume.result c.volume_of-volume.ensures (sym c.in_ok-check_record.ensures) c.args.size c.if-size-gt-LARGEST.false

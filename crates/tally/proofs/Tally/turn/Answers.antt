@@ -5,8 +5,8 @@ use Rattle.tally.proofs.Tally.turn.Goals as goal
 pub loop-d-init : goal.loop-d-init
 loop-d-init c = turning_starts c.args.self.now
 
-pub overflow-add-given : goal.overflow-add-given
-overflow-add-given c =
+pub overflow_add-given : goal.overflow_add-given
+overflow_add-given c =
     omega (
       arith,
       turning-fits c.args.self.now c.loop-d.self c.loop-d.d c.loop-d.given c.loop-d.invariant c.settle-given.new.self c.settle-given.result c.settle-given.ensures,
@@ -19,4 +19,4 @@ loop-d-preserved c =
 
 pub returns : goal.returns
 returns c =
-    turn_did c.args.self.now c.loop-d.self c.loop-d.d c.loop-d.given (sym c.in-ok-none-assigned.ensures) c.loop-d.invariant c.loop-d-test.false
+    turn_did c.args.self.now c.loop-d.self c.loop-d.d c.loop-d.given (sym c.in_ok-none_assigned.ensures) c.loop-d.invariant c.loop-d-test.false

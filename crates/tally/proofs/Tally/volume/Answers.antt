@@ -5,20 +5,20 @@ use Rattle.tally.proofs.Sounds.{unmoved, refused_as, done_did}
 use Rattle.tally.proofs.Grows.{volume-refused, volume-done, volume-book, volume-sound}
 use Rattle.tally.proofs.Tally.volume.Goals as goal
 
-pub returns-in-err-d : goal.returns-in-err-d
-returns-in-err-d c =
-    let p = err_from_is_err_and c.from-residual.result c.from-residual.ensures.1 in
+pub returns-in_err-d : goal.returns-in_err-d
+returns-in_err-d c =
+    let p = err_from_is_err_and c.from_residual.result c.from_residual.ensures.1 in
     rw p.1
     (refused_as _ _ _ p.0 _ p.2
-    (volume-refused c.args.self.now c.args.parent c.args.records c.args.name _ c.in-err-d.field-0.0 (sym c.in-err-d.ensures.answer)
-    (unmoved c.args.self.now _ refl refl refl c.in-err-d.ensures.after refl refl)))
+    (volume-refused c.args.self.now c.args.parent c.args.records c.args.name _ c.in_err-d.field-0.0 (sym c.in_err-d.ensures.answer)
+    (unmoved c.args.self.now _ refl refl refl c.in_err-d.ensures.after refl refl)))
 
-pub invariant-of-self-2 : goal.invariant-of-self-2
-invariant-of-self-2 c = (
+pub invariant_of-self-2 : goal.invariant_of-self-2
+invariant_of-self-2 c = (
   c.args.self.now.sized,
   (
-    volume-sound c.args.self.now c.args.parent c.args.records c.args.name c.in-ok-d.d (sym c.in-ok-d.ensures.answer)
-        c.add-volume.new.self c.in-ok-d.ensures.after c.empty.result c.empty.ensures (omega arith),
+    volume-sound c.args.self.now c.args.parent c.args.records c.args.name c.in_ok-d.d (sym c.in_ok-d.ensures.answer)
+        c.add_volume.new.self c.in_ok-d.ensures.after c.empty.result c.empty.ensures (omega arith),
     tt,
   ),
 )
@@ -27,8 +27,8 @@ pub returns : goal.returns
 returns c =
     done_did c.args.self.now _ _ c.from.result
     (λ cost.
-    volume-done c.args.self.now c.args.parent c.args.records c.args.name c.in-ok-d.d (sym c.in-ok-d.ensures.answer) cost
+    volume-done c.args.self.now c.args.parent c.args.records c.args.name c.in_ok-d.d (sym c.in_ok-d.ensures.answer) cost
     ∙ ap Done (sym c.from.ensures))
-    (volume-book c.args.self.now c.args.parent c.args.records c.args.name c.in-ok-d.d (sym c.in-ok-d.ensures.answer)
-    c.add-volume.new.self c.in-ok-d.ensures.after c.empty.result c.empty.ensures)
+    (volume-book c.args.self.now c.args.parent c.args.records c.args.name c.in_ok-d.d (sym c.in_ok-d.ensures.answer)
+    c.add_volume.new.self c.in_ok-d.ensures.after c.empty.result c.empty.ensures)
     (record { size = refl; slop = refl; worst = refl })

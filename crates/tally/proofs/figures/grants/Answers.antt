@@ -5,8 +5,8 @@ use Rattle.rules.specs.declared.state.Transaction.TheVariants.{Idle}
 use Rattle.tally.specs.Grants.{grant_by}
 use Rattle.tally.proofs.figures.grants.Goals as goal
 
-pub overflow-add-sum : goal.overflow-add-sum
-overflow-add-sum c =
+pub overflow_add-sum : goal.overflow_add-sum
+overflow_add-sum c =
     let lt : c.loop-state.state-index < length c.args.transactions.now = omega arith in
     let g = grant_by c.args.worst c.args.volume in
     omega (

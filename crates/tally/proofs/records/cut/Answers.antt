@@ -7,25 +7,25 @@ use Rattle.tally.proofs.records.cut.Goals as goal
 pub loop-number-init : goal.loop-number-init
 loop-number-init c = cutting_starts c.args.contents.now c.args.records
 
-pub empty-record-units-requires : goal.empty-record-units-requires
-empty-record-units-requires c = record {
+pub empty_record-units-requires : goal.empty_record-units-requires
+empty_record-units-requires c = record {
   inside = cutting_inside c.args.contents.now c.requires.shaped c.requires.fits c.loop-number.contents c.args.records c.loop-number.number c.loop-number.units c.loop-number.invariant (omega (arith, c.loop-number-test.true));
   fits = cutting_fits c.args.contents.now c.requires.shaped c.requires.fits c.loop-number.contents c.args.records c.loop-number.number c.loop-number.units c.loop-number.invariant (omega (arith, c.loop-number-test.true));
 }
 
-pub overflow-add-units : goal.overflow-add-units
-overflow-add-units c =
+pub overflow_add-units : goal.overflow_add-units
+overflow_add-units c =
     omega (
       arith,
-      c.empty-record-units.ensures.units,
+      c.empty_record-units.ensures.units,
       cutting_adds c.args.contents.now c.requires.shaped c.requires.fits c.loop-number.contents c.args.records c.loop-number.number c.loop-number.units c.loop-number.invariant (omega (arith, c.loop-number-test.true)),
     )
 
 pub loop-number-preserved : goal.loop-number-preserved
 loop-number-preserved c =
-    let u = c.empty-record-units.ensures.units in
-    let k = c.empty-record-units.ensures.after in
-    subst (λ (x : Contents). Cutting c.args.contents.now x c.args.records (c.loop-number.number + 1) (c.loop-number.units + c.empty-record-units.result)) (sym k)
+    let u = c.empty_record-units.ensures.units in
+    let k = c.empty_record-units.ensures.after in
+    subst (λ (x : Contents). Cutting c.args.contents.now x c.args.records (c.loop-number.number + 1) (c.loop-number.units + c.empty_record-units.result)) (sym k)
     (subst (λ (n : ℕ). Cutting c.args.contents.now (emptied c.loop-number.contents c.loop-number.number) c.args.records (c.loop-number.number + 1) (c.loop-number.units + n)) (sym u)
     (cutting_on c.args.contents.now c.requires.shaped c.requires.fits c.loop-number.contents c.args.records c.loop-number.number c.loop-number.units c.loop-number.invariant (omega (arith, c.loop-number-test.true))))
 

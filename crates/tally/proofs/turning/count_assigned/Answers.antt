@@ -19,14 +19,14 @@ pub loop-state-preserved : goal.loop-state-preserved
 loop-state-preserved c =
     let lt : c.loop-state.state-index < length c.args.transactions.now = omega arith in
     let one : c.from-count.result ≡ cond (is_assigned (get_or c.args.transactions.now c.loop-state.state-index Idle)) 1 0 =
-    c.from-count.ensures ∙ one_if c.is-assigned.result ∙ ap (λ (q : Bool). cond q 1 0) c.is-assigned.ensures in (
+    c.from-count.ensures ∙ one_if c.is_assigned.result ∙ ap (λ (q : Bool). cond q 1 0) c.is_assigned.ensures in (
       omega (
         arith,
         one,
         c.loop-state.invariant.0,
         sum_by_more (λ (y : Transaction). cond (is_assigned y) 1 0) c.args.transactions.now c.loop-state.state-index Idle lt,
       ),
-      omega (arith, c.loop-state.invariant.1, c.from-count.ensures, one-most c.is-assigned.result),
+      omega (arith, c.loop-state.invariant.1, c.from-count.ensures, one-most c.is_assigned.result),
     )
 
 pub returns : goal.returns

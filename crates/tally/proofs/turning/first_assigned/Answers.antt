@@ -13,18 +13,18 @@ onward : (ts : List Transaction) (i : ℕ) → i < length ts →
 onward ts i l =
     at_drop_more (first_assigned i) ts i Idle l ∙ ap (λ (k : ℕ). cond (is_assigned (get_or ts i Idle)) i (first_assigned k (drop (i + 1) ts))) (sym (add-one i))
 
-pub returns-then-is-assigned : goal.returns-then-is-assigned
-returns-then-is-assigned c =
+pub returns-then-is_assigned : goal.returns-then-is_assigned
+returns-then-is_assigned c =
     c.loop-state.invariant.0
     ∙ sym (onward c.args.transactions.now c.loop-state.state-index c.loop-state-test.true
-    ∙ cond-true (is_assigned (get_or c.args.transactions.now c.loop-state.state-index Idle)) c.loop-state.state-index _ (sym c.if-is-assigned.ensures))
+    ∙ cond-true (is_assigned (get_or c.args.transactions.now c.loop-state.state-index Idle)) c.loop-state.state-index _ (sym c.if-is_assigned.ensures))
     ∙ c.loop-state.invariant.1
 
 pub loop-state-preserved : goal.loop-state-preserved
 loop-state-preserved c = (
   ap (λ (n : ℕ). n + 1) c.loop-state.invariant.0,
   sym (onward c.args.transactions.now c.loop-state.state-index c.loop-state-test.true
-      ∙ cond-false (is_assigned (get_or c.args.transactions.now c.loop-state.state-index Idle)) c.loop-state.state-index _ (sym c.if-is-assigned.ensures))
+      ∙ cond-false (is_assigned (get_or c.args.transactions.now c.loop-state.state-index Idle)) c.loop-state.state-index _ (sym c.if-is_assigned.ensures))
       ∙ c.loop-state.invariant.1,
 )
 

@@ -5,9 +5,9 @@ use Rattle.tree.specs.Parts.{rows_of}
 use Rattle.tree.proofs.Granted.{lower-within}
 use Rattle.tree.proofs.Tree.lower.Goals as goal
 
-pub put-own-requires : goal.put-own-requires
-put-own-requires c =
+pub put_own-requires : goal.put_own-requires
+put_own-requires c =
     let inside : c.args.d < length (rows_of c.args.self.now) = search rules in
-    let less : c.saturating-sub-own.result ≤ (row (rows_of c.args.self.now) c.args.d).own =
-    omega (arith, c.saturating-sub-own.ensures, ap (λ (r : Row). r.own) c.row.ensures) in
-    record { inside = inside; within = lower-within c.args.self.now c.args.d c.saturating-sub-own.result inside less }
+    let less : c.saturating_sub-own.result ≤ (row (rows_of c.args.self.now) c.args.d).own =
+    omega (arith, c.saturating_sub-own.ensures, ap (λ (r : Row). r.own) c.row.ensures) in
+    record { inside = inside; within = lower-within c.args.self.now c.args.d c.saturating_sub-own.result inside less }

@@ -13,8 +13,8 @@ unfolding charge load
 within room zero l = omega arith
 within room (suc d) l = absurd (omega arith)
 
-pub invariant-of-result : goal.invariant-of-result
-invariant-of-result c = (
+pub invariant_of-result : goal.invariant_of-result
+invariant_of-result c = (
   (omega arith, omega arith, omega arith),
   ((refl, refl, refl), (λ k gt l. omega arith, (kept, (within _, (λ d l some. absurd (some (one d l)), ((refl, refl, refl), tt)))))),
 )

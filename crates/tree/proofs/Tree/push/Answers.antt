@@ -3,8 +3,8 @@ use Rattle.tree.proofs.Fine.{count}
 use Rattle.tree.proofs.Ghosts.{grown-ghosts, grown-rows, grown_kinds}
 use Rattle.tree.proofs.Tree.push.Goals as goal
 
-pub invariant-of-self : goal.invariant-of-self
-invariant-of-self c = grown-ghosts c.args.self.now c.args.parent c.args.kind c.requires.inside c.requires.vacant
+pub invariant_of-self : goal.invariant_of-self
+invariant_of-self c = grown-ghosts c.args.self.now c.args.parent c.args.kind c.requires.inside c.requires.vacant
 
 pub returns : goal.returns
 returns c = record {

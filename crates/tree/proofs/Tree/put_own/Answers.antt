@@ -17,8 +17,8 @@ settle-requires c =
           (to_z-of_z w32 c.moved-change.result fit ∙ c.moved-change.ensures ∙ ap (λ (r : Row). pos c.args.own -ℤ pos r.own) c.row.ensures) c.requires.within;
     }
 
-pub invariant-of-self : goal.invariant-of-self
-invariant-of-self c =
+pub invariant_of-self : goal.invariant_of-self
+invariant_of-self c =
     let fit : SFits w32 c.moved-change.result = search rules in
     own-ghosts c.args.self.now c.args.d c.args.own _ c.requires.inside
     (to_z-of_z w32 c.moved-change.result fit ∙ c.moved-change.ensures ∙ ap (λ (r : Row). pos c.args.own -ℤ pos r.own) c.row.ensures) c.requires.within

@@ -2,8 +2,8 @@ use Rattle.std.proofs.Common.{refl}
 use Rattle.tree.proofs.Ghosts.{quota-ghosts, edited-rows, nothing-moved, put_quota}
 use Rattle.tree.proofs.Tree.put_quota.Goals as goal
 
-pub invariant-of-self : goal.invariant-of-self
-invariant-of-self c = quota-ghosts c.args.self.now c.args.d c.args.units c.requires.inside c.requires.below c.requires.enough
+pub invariant_of-self : goal.invariant_of-self
+invariant_of-self c = quota-ghosts c.args.self.now c.args.d c.args.units c.requires.inside c.requires.below c.requires.enough
 
 pub returns : goal.returns
 returns c = record {

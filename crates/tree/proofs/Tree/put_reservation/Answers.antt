@@ -21,8 +21,8 @@ settle-requires c =
           c.reweighed-change.ensures (to_z-of_z w32 c.reweighed-change.result fit)) c.requires.allowed (reserve-within c.args.self.now c.args.d c.args.units c.requires.inside c.requires.below c.requires.granted);
     }
 
-pub invariant-of-self : goal.invariant-of-self
-invariant-of-self c =
+pub invariant_of-self : goal.invariant_of-self
+invariant_of-self c =
     let fit : SFits w32 c.reweighed-change.result = search rules in
     let parent : c.row-row.result.parent ≡ (row (rows_of c.args.self.now) c.args.d).parent = ap (λ (r : Row). r.parent) c.row-row.ensures in
     reservation-ghosts c.args.self.now c.args.d c.args.units _ _ c.requires.inside c.requires.below parent

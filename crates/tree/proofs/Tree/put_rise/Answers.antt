@@ -5,16 +5,16 @@ use Rattle.tree.specs.Parts.{room_of, rows_of}
 use Rattle.tree.proofs.Granted.{raise_within, raise_sum}
 use Rattle.tree.proofs.Tree.put_rise.Goals as goal
 
-pub overflow-add-own : goal.overflow-add-own
-overflow-add-own c =
+pub overflow_add-own : goal.overflow_add-own
+overflow_add-own c =
     omega (
       arith,
       raise_sum c.args.self.now c.args.d c.args.units c.requires.inside c.requires.granted,
       ap (λ (r : Row). r.own) c.row.ensures,
     )
 
-pub put-own-requires : goal.put-own-requires
-put-own-requires c = record {
+pub put_own-requires : goal.put_own-requires
+put_own-requires c = record {
   inside = c.requires.inside;
   within = subst (λ (n : ℕ). WithinLimits (room_of c.args.self.now) (with_own (rows_of c.args.self.now) c.args.d (n + c.args.units)))
       (sym (ap (λ (r : Row). r.own) c.row.ensures))

@@ -5,17 +5,17 @@ use Rattle.marks.specs.Sound.{pool_of, holders_of, TookFor, Grew}
 use Rattle.marks.proofs.Takes.{out_within, taking-start, taking-more, answer_ok}
 use Rattle.marks.proofs.marks.Marks.take.Goals as goal
 
-pub overflow-sub-size : goal.overflow-sub-size
-overflow-sub-size g c = omega (arith, c.size.ensures, c.requires.counted, c.requires.sized, out_within (g.A.Allocator.units (pool_of c.args.self.now)))
+pub overflow_sub-size : goal.overflow_sub-size
+overflow_sub-size g c = omega (arith, c.size.ensures, c.requires.counted, c.requires.sized, out_within (g.A.Allocator.units (pool_of c.args.self.now)))
 
 pub loop-i-init : goal.loop-i-init
 loop-i-init g c = (c.requires, taking-start g.A.Allocator.units c.args.volume c.args.number c.args.self.now, refl)
 
 pub loop-i-preserved : goal.loop-i-preserved
 loop-i-preserved g c =
-    let e = c.take-one.ensures in (
+    let e = c.take_one.ensures in (
       e.sound,
-      taking-more g.A.Allocator.units g.A.Allocator.wellmade c.args.volume c.args.number c.loop-i.i c.take-one.result c.args.self.now c.loop-i.self c.take-one.new.self c.requires c.loop-i.invariant.0 c.loop-i.invariant.1 e.took e.marked e.sized,
+      taking-more g.A.Allocator.units g.A.Allocator.wellmade c.args.volume c.args.number c.loop-i.i c.take_one.result c.args.self.now c.loop-i.self c.take_one.new.self c.requires c.loop-i.invariant.0 c.loop-i.invariant.1 e.took e.marked e.sized,
       e.lent ∙ c.loop-i.invariant.2,
     )
 

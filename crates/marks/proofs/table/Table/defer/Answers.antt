@@ -28,8 +28,8 @@ step c =
     let e = c.shift.ensures in
     deferring_more c.args.volume c.args.number c.loop-self.moved c.args.self.now c.loop-self.self c.shift.new.self c.loop-self.invariant lv lr (not-ended _ _ (sym c.loop-self-test.ensures)) e.sized e.holders e.next e.first e.deferred
 
-pub overflow-add-moved : goal.overflow-add-moved
-overflow-add-moved c =
+pub overflow_add-moved : goal.overflow_add-moved
+overflow_add-moved c =
     let s = step c in
     omega (arith, s.1, c.loop-self.invariant.many, few-rows (same (Record c.args.volume c.args.number)) c.args.self.now c.requires)
 

@@ -8,5 +8,5 @@ returns c =
     let b = bit_out _ _ _ _ _ c.requires c.turn.ensures found.0 found.1 found.2 in
     record { keeps = b.0; took = b.1; kept = tt; holds = (c.turn.ensures, found.2); lent = beside-turned _ _ _ _ _ c.requires.room.2 found.0 c.turn.ensures; named = refl }
 
-pub returns-in-default : goal.returns-in-default
-returns-in-default c = record { keeps = search rules; took = (refl, marks-all _ _ c.in-default.ensures, refl); kept = refl; holds = refl; lent = refl; named = refl }
+pub returns-in_default : goal.returns-in_default
+returns-in_default c = record { keeps = search rules; took = (refl, marks-all _ _ c.in_default.ensures, refl); kept = refl; holds = refl; lent = refl; named = refl }

@@ -10,8 +10,8 @@ use Rattle.tree.proofs.table.Table.settle.Goals as goal
 pub up-init : goal.up-init
 up-init c = first _ _ _ c.requires.lengths c.requires.inside
 
-pub overflow-cast-self : goal.overflow-cast-self
-overflow-cast-self c =
+pub overflow_cast-self : goal.overflow_cast-self
+overflow_cast-self c =
     let h : c.changed.result < 2 ^ 16 =
     come_fits _ _ _ _ _ c.requires.rooted c.up.invariant
     (λ k. subst (λ z. get_or (spread (rows_in c.args.self.now) (path (rows_in c.args.self.now) c.args.d) z (charges_in c.args.self.now)) k 0 < 2 ^ 16)
