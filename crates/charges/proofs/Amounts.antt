@@ -1,9 +1,8 @@
 -- The signed rule and the limits, in the form in which omega reads them.
-use Rattle.std.proofs.Common.{◌≡◌, ℕ, ◌+◌, ◌-◌, ◌<◌, ◌≤◌, max, ◌≢◌, ◌↔◌, ℤ, pos, negsuc, ◌+ℤ◌, ◌-ℤ◌, arith}
+use Rattle.std.proofs.Common.{◌≡◌, ℕ, ◌-◌, ℤ, pos, negsuc, ◌+ℤ◌, ◌-ℤ◌, arith}
 use borrow.Author.Differences.{up, down}
 use Rattle.std.proofs.lemmas.Int.{ints, clamps}
-use Rattle.std.proofs.lemmas.Bool.{eq-eqb, ne_eqb, cond-true, cond-false}
-use Rattle.charges.specs.Amounts.{weight_of, limit_of, excess, passed, units, changed}
+use Rattle.charges.specs.Amounts.{weight_of, passed, units, changed}
 
 pub units-is : (z : ℤ) → units z ≡ up z - down z
 units-is (pos n) = omega arith

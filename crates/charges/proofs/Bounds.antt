@@ -1,9 +1,9 @@
 -- The root's charge bounds every charge and weight, and all own units together.
-use Rattle.std.proofs.Common.{◌≡◌, ℕ, zero, suc, ◌+◌, ◌<◌, ◌≤◌, cond, eqb, ◌≢◌, List, [], ◌∷◌, length, sum_by, sym, refl, ◌∙◌, inl, inr, le_refl, arith}
+use Rattle.std.proofs.Common.{◌≡◌, ℕ, zero, suc, ◌+◌, ◌<◌, ◌≤◌, ◌≢◌, List, [], ◌∷◌, length, sum_by, refl, inl, inr, le_refl, arith}
 use Rattle.std.proofs.lemmas.Bool.{cases_lt}
 use Rattle.charges.specs.declared.Row.{Row}
 use Rattle.charges.specs.Tree.{blank, row, Rooted, charge, weight}
-use Rattle.charges.specs.Laws.{Bounded, BoundLaw}
+use Rattle.charges.specs.Laws.{BoundLaw}
 use Rattle.charges.proofs.Charge.{share, charge-law}
 use Rattle.charges.proofs.Sums.{sum_to, sum_same, sum_but_one, sum_le, sum_add, sum-none, sum-exchange, sum_only, sum_list, term_le_sum}
 use Rattle.charges.proofs.Local.{share-child}

@@ -1,11 +1,11 @@
 -- The charge as the structural sum computes it is the dataset's own units and the weights of its children.
-use Rattle.std.proofs.Common.{◌≡◌, ℕ, zero, suc, ◌+◌, ◌-◌, ◌<◌, ◌≤◌, Bool, true, false, cond, eqb, List, [], ◌∷◌, length, drop, sum_by, filter, sym, refl, ◌∙◌, add-one, arith}
+use Rattle.std.proofs.Common.{◌≡◌, ℕ, zero, suc, ◌+◌, ◌-◌, ◌<◌, ◌≤◌, Bool, true, false, cond, eqb, List, ◌∷◌, length, drop, sum_by, filter, sym, refl, ◌∙◌, add-one, arith}
 use Rattle.std.specs.List.{range_with_len}
 use Rattle.std.proofs.lemmas.List.{drop_more, drop_all}
 use Rattle.std.proofs.lemmas.List.Sums.{sum_by-cons}
 use Rattle.std.proofs.lemmas.Bool.{ne_eqb, cond-false}
 use Rattle.charges.specs.declared.Row.{Row}
-use Rattle.charges.specs.Tree.{blank, row, Rooted, load, charge, weight, children}
+use Rattle.charges.specs.Tree.{blank, row, Rooted, load, charge, weight}
 use Rattle.charges.specs.Laws.{ChargeEquation}
 use Rattle.charges.proofs.Sums.{sum_to}
 

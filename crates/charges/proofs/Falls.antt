@@ -1,14 +1,14 @@
 -- A fall passes no limit, and a quota set anew moves no charge.
-use Rattle.std.proofs.Common.{◌≡◌, ℕ, ◌<◌, ◌≤◌, ◌≢◌, List, length, ap, ◌∙◌, inl, inr, arith}
+use Rattle.std.proofs.Common.{◌≡◌, ℕ, ◌<◌, ◌≤◌, ◌≢◌, List, length, inl, inr, arith}
 use Rattle.std.proofs.lemmas.Bool.{cases_eq}
 use Rattle.charges.specs.declared.Row.{Row}
 use Rattle.charges.specs.Tree.{row, Rooted, charge, limit, WithinLimits, with_own, with_reservation, with_quota}
-use Rattle.charges.specs.Laws.{FallLaw, QuotaSet, QuotaLaw}
+use Rattle.charges.specs.Laws.{FallLaw, QuotaLaw}
 use Rattle.charges.proofs.Limits.{less_excess, excess-quota, excess-none}
 use Rattle.charges.proofs.Paths.{path_ind, path_cases}
 use Rattle.charges.proofs.Paths.Reaches.{here}
 use Rattle.charges.proofs.Edits.{Edited, own-edited, own-set, own-reservation, own-quota, reservation-edited, reservation-set, reservation-own, reservation-quota, quota-edited, quota-set, quota-elsewhere, quota-own, quota-reservation}
-use Rattle.charges.proofs.Local.{Moves, moves}
+use Rattle.charges.proofs.Local.{moves}
 
 module _ (rows rows' : List Row) (v : ℕ) (rooted : Rooted rows) (h : v < length rows) (edit : Edited rows rows' v) where
   -- no charge rises where neither the own units nor the reservation do

@@ -1,10 +1,10 @@
 -- What it is to be within a limit.
-use Rattle.std.proofs.Common.{◌≡◌, ℕ, zero, suc, ◌+◌, ◌-◌, ◌<◌, ◌≤◌, Bool, true, false, cond, eqb, ◌≢◌, ◌↔◌, List, length, Some, None, Option, sym, refl, ap, ◌∙◌, inl, inr, arith}
+use Rattle.std.proofs.Common.{◌≡◌, ℕ, ◌+◌, ◌-◌, ◌<◌, ◌≤◌, cond, eqb, ◌≢◌, List, length, Some, None, Option, refl, ap, ◌∙◌, inl, inr, arith}
 use Rattle.std.proofs.lemmas.Bool.{eq-eqb, ne_eqb, cond-true, cond-false, cases_eq}
 use Rattle.charges.specs.declared.Row.{Row}
 use Rattle.charges.specs.Amounts.{limit_of, excess}
-use Rattle.charges.specs.Tree.{row, charge, limit, Within, Reserved}
-use Rattle.charges.specs.Laws.{LimitMeaning, LimitLaw}
+use Rattle.charges.specs.Tree.{row, charge, limit, Reserved}
+use Rattle.charges.specs.Laws.{LimitLaw}
 
 -- a smaller charge passes no limit that a larger one does not
 pub less_excess : (l : Option ℕ) (x y : ℕ) → x ≤ y → excess l y ≡ 0 → excess l x ≡ 0

@@ -1,12 +1,12 @@
 -- Locality: an edit of own units or of a reservation moves the charges on the path by the signed rule, and no other.
-use Rattle.std.proofs.Common.{◌≡◌, ℕ, ◌<◌, ◌≢◌, List, length, arith}
+use Rattle.std.proofs.Common.{◌≡◌, ℕ, ◌<◌, List, length, arith}
 use Rattle.std.proofs.lemmas.Int.{ints, clamps}
 use Rattle.charges.specs.declared.Row.{Row}
 use Rattle.charges.specs.Tree.{row, Rooted, charge, with_own, with_reservation}
 use Rattle.charges.specs.Laws.{Passes, OwnMoves, ReservationMoves, Locality}
 use Rattle.charges.proofs.Paths.{Reaches, on_reaches, reaches_on}
 use Rattle.charges.proofs.Paths.Reaches.{here}
-use Rattle.charges.proofs.Edits.{Edited, own-edited, own-set, own-reservation, reservation-edited, reservation-set, reservation-own}
+use Rattle.charges.proofs.Edits.{own-edited, own-set, own-reservation, reservation-edited, reservation-set, reservation-own}
 use Rattle.charges.proofs.Local.{Moves, moves}
 
 -- where the reservation of d stays, the change of its weight is what the rule passes on

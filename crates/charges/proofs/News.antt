@@ -1,11 +1,11 @@
 -- A new dataset with nothing in it adds to no charge.
-use Rattle.std.proofs.Common.{◌≡◌, ℕ, suc, ◌+◌, ◌<◌, Bool, true, false, cond, eqb, List, [], ◌∷◌, ◌++◌, length, drop, sym, refl, ap, ◌∙◌, inl, inr, arith}
+use Rattle.std.proofs.Common.{◌≡◌, ℕ, suc, ◌+◌, ◌<◌, Bool, true, false, cond, eqb, List, [], ◌∷◌, ◌++◌, length, drop, refl, inl, inr, arith}
 use Rattle.std.proofs.lemmas.List.{length_push, get_or_push, get_or_append_left, drop-append-le, drop_all}
 use Rattle.std.proofs.lemmas.Bool.{cases_lt}
 use Rattle.charges.specs.declared.Row.{Row}
-use Rattle.charges.specs.Amounts.{weight_of, excess}
-use Rattle.charges.specs.Tree.{blank, row, Rooted, load, charge, limit, WithinLimits}
-use Rattle.charges.specs.Laws.{Added, AddLaw}
+use Rattle.charges.specs.Amounts.{weight_of}
+use Rattle.charges.specs.Tree.{blank, Rooted, load, charge, limit, WithinLimits}
+use Rattle.charges.specs.Laws.{AddLaw}
 use Rattle.charges.proofs.Limits.{nothing-within}
 
 cond-none : (b : Bool) (x : ℕ) → x ≡ 0 → cond b x 0 ≡ 0

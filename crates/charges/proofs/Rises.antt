@@ -1,6 +1,5 @@
 -- How far a rise goes: it never grows on its way up, an unspent reservation that covers it stops it, and an excess is at most the rise.
-use Rattle.std.proofs.Common.{◌≡◌, ℕ, ◌+◌, ◌-◌, ◌^◌, ◌<◌, ◌≤◌, ◌≢◌, List, ◌∷◌, length, pos, Some, sym, ap, ◌∙◌, inl, inr, le_refl, arith}
-use Rattle.std.specs.List.{ContainsAt as Has}
+use Rattle.std.proofs.Common.{◌≡◌, ℕ, ◌+◌, ◌<◌, ◌≤◌, List, ◌∷◌, length, pos, Some, sym, ap, ◌∙◌, inl, inr, arith}
 use Rattle.std.proofs.ByRecursion.{has_append_right}
 use Rattle.std.proofs.lemmas.Bool.{cases_lt}
 use Rattle.charges.specs.declared.Row.{Row}

@@ -1,5 +1,5 @@
 -- The kept charges, with a change spread along the path, are the charges computed from nothing.
-use Rattle.std.proofs.Common.{◌≡◌, ℕ, zero, suc, ◌+◌, ◌<◌, ◌≤◌, ◌≢◌, List, [], ◌∷◌, ◌++◌, length, get_or, set, ℤ, sym, refl, ap, ◌∙◌, subst, inl, inr, le_refl, arith}
+use Rattle.std.proofs.Common.{◌≡◌, ℕ, zero, suc, ◌+◌, ◌<◌, ◌≤◌, List, [], ◌∷◌, ◌++◌, length, get_or, set, ℤ, sym, refl, ap, ◌∙◌, subst, inl, inr, le_refl, arith}
 use Rattle.std.proofs.lemmas.List.{length-set, get_or-set_same, get_or-set_other, length_push, get_or_push, get_or_append_left}
 use Rattle.std.proofs.lemmas.Bool.{cases_lt, cases_eq}
 use Rattle.charges.specs.declared.Row.{Row}
@@ -8,7 +8,6 @@ use Rattle.charges.specs.Tree.{row, Rooted, charge, climb, path, with_own, with_
 use Rattle.charges.specs.Keep.{Keeps, spread, SpreadEquation, KeepLaw}
 use Rattle.charges.proofs.Amounts.{changed_to}
 use Rattle.charges.proofs.Paths.{path-up, path_le, path-next, off-start}
-use Rattle.charges.proofs.Paths.Reaches.{here, up}
 use Rattle.charges.proofs.Edits.{Edited, own-edited, reservation-edited, reservation-own, quota-edited}
 use Rattle.charges.proofs.Local.{Moves, moves}
 use Rattle.charges.proofs.Walks.{Come, next, own_come, reservation_come}

@@ -1,15 +1,15 @@
 -- The walk, which goes by changes, answers what the charges computed from nothing say.
-use Rattle.std.proofs.Common.{◌≡◌, ℕ, zero, suc, ◌+◌, ◌-◌, ◌<◌, ◌≤◌, ◌≢◌, ◌↔◌, List, [], ◌∷◌, ◌++◌, length, ℤ, pos, ◌+ℤ◌, ◌-ℤ◌, Some, None, Option, sym, refl, ap, ◌∙◌, subst, inl, inr, le_refl, arith}
+use Rattle.std.proofs.Common.{◌≡◌, ℕ, zero, suc, ◌+◌, ◌<◌, ◌≤◌, List, [], ◌∷◌, ◌++◌, length, ℤ, pos, ◌+ℤ◌, ◌-ℤ◌, Some, None, Option, sym, refl, ap, ◌∙◌, inl, inr, le_refl, arith}
 use Rattle.std.proofs.ByRecursion.{all-has}
 use Rattle.std.proofs.lemmas.Int.{ints, clamps}
 use Rattle.std.proofs.lemmas.Bool.{cases_eq}
 use Rattle.std.specs.List.{AllByRecursion as All}
 use Rattle.charges.specs.declared.Row.{Row}
 use Rattle.charges.specs.Amounts.{limit_of, excess, passed, reweighed, changed}
-use Rattle.charges.specs.Tree.{row, Rooted, charge, weight, limit, Within, WithinLimits, climb, path, with_own, with_reservation, raised}
+use Rattle.charges.specs.Tree.{row, Rooted, charge, limit, Within, WithinLimits, climb, path, with_own, with_reservation, raised}
 use Rattle.charges.specs.Walk.{or_else, walk_along, walk, first_past, Nearest}
 use Rattle.charges.specs.Laws.{WalkEquation, Recomputed, Judged, RiseLaw, ReserveLaw}
-use Rattle.charges.proofs.Amounts.{changed_to, passed_is}
+use Rattle.charges.proofs.Amounts.{changed_to}
 use Rattle.charges.proofs.Paths.{Reaches, path-up, path_end, path_le, path_cases, off-start, all_from_has, on_reaches, reaches_on}
 use Rattle.charges.proofs.Paths.Reaches.{here, up}
 use Rattle.charges.proofs.Local.{Moves, moves}

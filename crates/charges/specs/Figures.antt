@@ -1,5 +1,5 @@
 -- Worked figures of the definitions, computed.
-use Rattle.std.specs.Prelude.{◌≡◌, ℕ, List, [], ◌∷◌, map, pos, negsuc, Some, None}
+use Rattle.std.specs.Prelude.{◌≡◌, List, [], ◌∷◌, map, pos, negsuc, Some, None}
 use Rattle.charges.specs.declared.Row.{Row}
 use Rattle.charges.specs.Amounts.{room_of, weight_of, unspent_of, limit_of, excess, passed, reweighed, changed}
 use Rattle.charges.specs.Tree.{Rooted, charge, weight, unspent, children, limit, WithinLimits, Reserved, path, with_own, with_reservation}

@@ -1,5 +1,5 @@
 -- Charges kept beside the rows, one for each, and how they follow an edit and a new dataset.
-use Rattle.std.specs.Prelude.{◌≡◌, ℕ, ◌<◌, List, [], ◌∷◌, ◌++◌, length, set, ℤ, pos, ◌-ℤ◌, slice_index, slice_set}
+use Rattle.std.specs.Prelude.{◌≡◌, ℕ, ◌<◌, List, [], ◌∷◌, ◌++◌, length, ℤ, pos, ◌-ℤ◌, slice_index, slice_set}
 use Rattle.charges.specs.declared.Row.{Row}
 use Rattle.charges.specs.Amounts.{passed, changed, reweighed}
 use Rattle.charges.specs.Tree.{row, Rooted, charge, path, with_own, with_reservation, with_quota}

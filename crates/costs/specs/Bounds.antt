@@ -1,5 +1,5 @@
 -- Each policy's costs are bounded as every policy promises. Lemmas, all proved: nothing here is to be believed.
-use Rattle.std.specs.Prelude.{◌≡◌, ℕ, ◌+◌, ◌-◌, ◌*◌, ◌/◌, ◌<◌, ◌≤◌}
+use Rattle.std.specs.Prelude.{◌≡◌, ℕ, ◌+◌, ◌-◌, ◌*◌, ◌<◌, ◌≤◌}
 use Rattle.std.proofs.Common.{ap, ◌∙◌, zero-mul, mul-zero, one-mul, add-mul, le_trans, mul-le-mul_right, mul-le-mul_left, div-lt_iff_lt-mul, le-mul_of_pos_right, arith}
 use Rattle.std.proofs.Math.Nat.{div-eq_of_lt, lt-div-mul-add}
 use Rattle.costs.specs.Costs.{largest, Bounded, CopiesFit, ParityFit, copies_cost, parity_cost, ceiling_div, rounded_up}

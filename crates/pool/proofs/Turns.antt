@@ -1,12 +1,11 @@
 -- The bits of lent bytes: one is turned over, or the first of them are cleared.
-use Rattle.std.proofs.Common.{◌≡◌, ℕ, zero, suc, ◌+◌, ◌-◌, ◌*◌, ◌/◌, ◌%◌, ◌^◌, ◌<◌, ◌≤◌, min, Bool, true, false, cond, not, eqb, ◌≢◌, List, [], ◌∷◌, map, length, get_or, set, replicate, Ok, sym, refl, ap, ◌∙◌, subst, inl, inr, mul_assoc, arith}
+use Rattle.std.proofs.Common.{◌≡◌, ℕ, zero, suc, ◌+◌, ◌-◌, ◌*◌, ◌/◌, ◌%◌, ◌^◌, ◌<◌, ◌≤◌, min, Bool, true, false, not, eqb, List, [], ◌∷◌, length, get_or, set, replicate, Ok, sym, refl, ap, ◌∙◌, subst, inl, inr, mul_assoc, arith}
 use native.Mathlib.Nat.{div-eq_of_lt}
 use lib.Bits.{bit_xor, xor_zero_r}
-use Rattle.std.proofs.lemmas.Nat.{xor_shr, xor_mod, shl-shr, shr-shr, pow-add, pow_below, pow_pos}
+use Rattle.std.proofs.lemmas.Nat.{xor_shr, xor_mod, shl-shr, shr-shr, pow-add, pow_below}
 use Rattle.std.proofs.lemmas.List.{get_or-set_same, get_or-set_other, get_or_past, length-set, ext_get_or, length-replicate, get_or-replicate}
 use Rattle.std.proofs.lemmas.List.FromFn.{length-map-range_with_len, get_or-map-range_with_len, fill_by_all}
-use Rattle.std.proofs.lemmas.Bool.{cases_eq, cases_lt, eqb-true, eq-eqb, ne_eqb}
-use Rattle.std.specs.List.{range_with_len}
+use Rattle.std.proofs.lemmas.Bool.{cases_eq, cases_lt, eqb-true, ne_eqb}
 use Rattle.pool.proofs.Outs.{within}
 use Rattle.pool.specs.Marks.{bit_of, bit_at, marks, turned, low_cleared, cleared, beside_bits, Room, Mapped}
 use Rattle.pool.specs.Units.{Took, Gave}

@@ -17,12 +17,26 @@ use Rattle.tree.proofs.Fronts.{under, front_edit}
 use Rattle.tree.proofs.Fine.{Fine, fine, count, fine-own, fine-reservation, fine-quota, fine-new, kept_small}
 
 abbrev pub Ghosts : ℕ → Table → Type 0
-Ghosts room t =
-    Sized room t.made × (Lengths t × (Rooted (rows_in t) × (Kept (rows_in t) (charges_in t) × (WithinLimits room (rows_in t) × (InQuotas (rows_in t) × (FreeRoot (rows_in t) (kinds_in t) × Unit {0}))))))
+Ghosts room t = record {
+  sized : Sized room t.made;
+  lengths : Lengths t;
+  rooted : Rooted (rows_in t);
+  kept : Kept (rows_in t) (charges_in t);
+  within : WithinLimits room (rows_in t);
+  reserved : InQuotas (rows_in t);
+  root : FreeRoot (rows_in t) (kinds_in t);
+}
 
 ghosts : (room : ℕ) (t : Table) → Sized room t.made → Lengths t → Fine room (rows_in t) (charges_in t) → is_folder (get_or (kinds_in t) 0 Folder) ≡ true → Ghosts room t
-ghosts room t sized full f folder =
-    (sized, (full, (f.rooted, (f.keeps.right, (f.within, (f.reserved, ((f.root_reservation, f.root_quota, folder), tt)))))))
+ghosts room t sized full f folder = record {
+  sized = sized;
+  lengths = full;
+  rooted = f.rooted;
+  kept = f.keeps.right;
+  within = f.within;
+  reserved = f.reserved;
+  root = (f.root_reservation, f.root_quota, folder);
+}
 
 -- t1 with the row of d edited
 abbrev pub edited : Table → ℕ → (Row → Row) → Table

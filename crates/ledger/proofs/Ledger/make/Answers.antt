@@ -34,5 +34,5 @@ returns g c =
     record {
       sound = laws.new-sound U W L C X size c.args.slop _ (g.P.CostPolicy.bounded c.args.policy) (omega arith) (omega arith) (omega arith) new m.sound nobody all_in;
       stands = laws.new-stands U W L C X size c.args.slop _ (g.P.CostPolicy.bounded c.args.policy) (omega arith) (omega arith) (omega arith) new m.sound nobody all_in;
-      made = record { pool_is = m.kept; policy_is = refl; size_is = c.make.ensures.size-is ∙ e; slop_is = c.make.ensures.slop_is; book_is = c.make.ensures.book_is };
+      made = record { pool_is = m.kept; policy_is = refl; size_is = c.make.ensures.size_is ∙ e; slop_is = c.make.ensures.slop_is; book_is = c.make.ensures.book_is };
     }

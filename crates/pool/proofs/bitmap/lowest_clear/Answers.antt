@@ -1,4 +1,4 @@
-use Rattle.std.proofs.Common.{◌<◌, arith, rules}
+use Rattle.std.proofs.Common.{◌<◌, arith}
 use Rattle.pool.proofs.Turns.{full_byte}
 use Rattle.pool.proofs.bitmap.lowest_clear.Goals as goal
 

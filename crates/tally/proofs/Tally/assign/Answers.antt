@@ -20,16 +20,14 @@ returns-in-Err c =
     _ c.in-Err.fault (sym c.in-Err.ensures.answer) (unmoved c.args.self.now _ refl refl refl c.in-Err.ensures.after refl refl))
 
 pub invariant_of-self-2 : goal.invariant_of-self-2
-invariant_of-self-2 c = (
-  c.args.self.now.sized,
-  (
-    assign-sound c.args.self.now c.args.t c.in_ok-change.change (sym c.in_ok-change.ensures)
+invariant_of-self-2 c = record {
+  sized = c.args.self.now.sized;
+  sound =
+      assign-sound c.args.self.now c.args.t c.in_ok-change.change (sym c.in_ok-change.ensures)
         c.volume_of.result c.estimate-units.result c.volume_of.ensures
         (c.estimate-units.ensures ∙ ap (λ w. w * c.args.self.now.worst) c.writes_of.ensures)
-        (sym c.in_default.ensures.answer) c.raise.new.self c.in_default.ensures.after,
-    tt,
-  ),
-)
+        (sym c.in_default.ensures.answer) c.raise.new.self c.in_default.ensures.after;
+}
 
 pub returns : goal.returns
 returns c =

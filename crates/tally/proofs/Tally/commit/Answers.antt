@@ -18,16 +18,14 @@ returns-in-Err c =
     ok_not_err tt c.in-Err.fault (sym ok ∙ sym c.in-Err.ensures.answer)
 
 pub invariant_of-self-2 : goal.invariant_of-self-2
-invariant_of-self-2 c = (
-  c.args.self.now.sized,
-  (
-    commit-sound c.args.self.now c.args.t c.in_ok-change.change (sym c.in_ok-change.ensures)
+invariant_of-self-2 c = record {
+  sized = c.args.self.now.sized;
+  sound =
+      commit-sound c.args.self.now c.args.t c.in_ok-change.change (sym c.in_ok-change.ensures)
         c.volume_of.result c.estimate-units.result c.volume_of.ensures
         (c.estimate-units.ensures ∙ ap (λ w. w * c.args.self.now.worst) c.writes_of.ensures)
-        c.lower.new.self c.in_default.ensures.after,
-    tt,
-  ),
-)
+        c.lower.new.self c.in_default.ensures.after;
+}
 
 pub returns : goal.returns
 returns c =

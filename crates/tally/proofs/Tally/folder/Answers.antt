@@ -14,14 +14,12 @@ returns-in_err-d c =
     (unmoved c.args.self.now _ refl refl refl c.in_err-d.ensures.after refl refl)))
 
 pub invariant_of-self-2 : goal.invariant_of-self-2
-invariant_of-self-2 c = (
-  c.args.self.now.sized,
-  (
-    folder-sound c.args.self.now c.args.parent c.args.name c.in_ok-d.d (sym c.in_ok-d.ensures.answer)
-        c.add_folder.new.self c.in_ok-d.ensures.after c.empty.result c.empty.ensures (omega arith),
-    tt,
-  ),
-)
+invariant_of-self-2 c = record {
+  sized = c.args.self.now.sized;
+  sound =
+      folder-sound c.args.self.now c.args.parent c.args.name c.in_ok-d.d (sym c.in_ok-d.ensures.answer)
+        c.add_folder.new.self c.in_ok-d.ensures.after c.empty.result c.empty.ensures (omega arith);
+}
 
 pub returns : goal.returns
 returns c =

@@ -29,10 +29,11 @@ empty_record-units-requires c = record {
 }
 
 pub invariant_of-self : goal.invariant_of-self
-invariant_of-self c = (
-  c.args.self.now.sized,
-  (free-sound c.args.self.now c.args.t c.args.number c.in_ok-change.change (sym c.in_ok-change.ensures) c.volume_of-volume.result c.volume_of-volume.ensures (sym c.in_ok-check_record.ensures) _ c.empty_record-units.ensures.after, tt),
-)
+invariant_of-self c = record {
+  sized = c.args.self.now.sized;
+  sound =
+      free-sound c.args.self.now c.args.t c.args.number c.in_ok-change.change (sym c.in_ok-change.ensures) c.volume_of-volume.result c.volume_of-volume.ensures (sym c.in_ok-check_record.ensures) _ c.empty_record-units.ensures.after;
+}
 
 pub returns : goal.returns
 returns c = record {

@@ -3,13 +3,11 @@ use Rattle.tally.proofs.Makes.{fresh-book, fresh-sound}
 use Rattle.tally.proofs.Tally.make.Goals as goal
 
 pub invariant_of-result : goal.invariant_of-result
-invariant_of-result c = (
-  c.requires,
-  (
-    fresh-sound c.make.result c.room.result c.make.ensures c.empty.result c.empty.ensures c.args.size c.args.slop c.args.worst c.room.ensures,
-    tt,
-  ),
-)
+invariant_of-result c = record {
+  sized = c.requires;
+  sound =
+      fresh-sound c.make.result c.room.result c.make.ensures c.empty.result c.empty.ensures c.args.size c.args.slop c.args.worst c.room.ensures;
+}
 
 pub returns : goal.returns
 returns c = record {

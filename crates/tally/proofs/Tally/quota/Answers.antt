@@ -5,14 +5,12 @@ use Rattle.tally.proofs.Settings.{quota-refused, quota-done, quota-book, quota-s
 use Rattle.tally.proofs.Tally.quota.Goals as goal
 
 pub invariant_of-self : goal.invariant_of-self
-invariant_of-self c = (
-  c.args.self.now.sized,
-  (
-    quota-still c.args.self.now c.args.d c.args.units c.set_quota.new.self c.set_quota.result c.set_quota.ensures.answer
-        c.set_quota.ensures.after (omega arith),
-    tt,
-  ),
-)
+invariant_of-self c = record {
+  sized = c.args.self.now.sized;
+  sound =
+      quota-still c.args.self.now c.args.d c.args.units c.set_quota.new.self c.set_quota.result c.set_quota.ensures.answer
+        c.set_quota.ensures.after (omega arith);
+}
 
 pub returns-in_err-charge : goal.returns-in_err-charge
 returns-in_err-charge c =

@@ -5,14 +5,12 @@ use Rattle.tally.proofs.Settings.{reserve-refused, reserve-done, reserve-book, r
 use Rattle.tally.proofs.Tally.reserve.Goals as goal
 
 pub invariant_of-self : goal.invariant_of-self
-invariant_of-self c = (
-  c.args.self.now.sized,
-  (
-    reserve-still c.args.self.now c.args.d c.args.units c.set_reservation.new.self c.set_reservation.result c.set_reservation.ensures.answer
-        c.set_reservation.ensures.after (omega arith),
-    tt,
-  ),
-)
+invariant_of-self c = record {
+  sized = c.args.self.now.sized;
+  sound =
+      reserve-still c.args.self.now c.args.d c.args.units c.set_reservation.new.self c.set_reservation.result c.set_reservation.ensures.answer
+        c.set_reservation.ensures.after (omega arith);
+}
 
 pub returns-in_err-weight : goal.returns-in_err-weight
 returns-in_err-weight c =

@@ -30,15 +30,18 @@ cut-units-requires c = record {
 }
 
 pub invariant_of-self : goal.invariant_of-self
-invariant_of-self c =
-    (c.args.self.now.sized, (resize-sound c.args.self.now c.args.volume c.args.records (sym c.in_ok-volume.ensures) (sym c.in_ok-check_records.ensures) _ c.cut_units.ensures.after, tt))
+invariant_of-self c = record {
+  sized = c.args.self.now.sized;
+  sound =
+      resize-sound c.args.self.now c.args.volume c.args.records (sym c.in_ok-volume.ensures) (sym c.in_ok-check_records.ensures) _ c.cut-units.ensures.after;
+}
 
 pub returns : goal.returns
 returns c = record {
   did =
-      done_did c.args.self.now _ _ c.cut_units.result
-      (resize-done c.args.self.now c.args.volume c.args.records (sym c.in_ok-volume.ensures) (sym c.in_ok-check_records.ensures) c.cut_units.result c.cut_units.ensures.units)
-      (resize-book c.args.self.now c.args.volume c.args.records (sym c.in_ok-volume.ensures) (sym c.in_ok-check_records.ensures) _ c.cut_units.ensures.after)
+      done_did c.args.self.now _ _ c.cut-units.result
+      (resize-done c.args.self.now c.args.volume c.args.records (sym c.in_ok-volume.ensures) (sym c.in_ok-check_records.ensures) c.cut-units.result c.cut-units.ensures.units)
+      (resize-book c.args.self.now c.args.volume c.args.records (sym c.in_ok-volume.ensures) (sym c.in_ok-check_records.ensures) _ c.cut-units.ensures.after)
       (record { size = refl; slop = refl; worst = refl });
   old = resize-old c.args.self.now c.args.volume c.args.records (sym c.in_ok-volume.ensures) (sym c.in_ok-check_records.ensures);
 }

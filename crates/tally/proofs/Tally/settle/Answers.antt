@@ -17,14 +17,12 @@ returns-in-Err c =
     }
 
 pub invariant_of-self-2 : goal.invariant_of-self-2
-invariant_of-self-2 c = (
-  c.args.self.now.sized,
-  (
-    settle-sound c.args.self.now c.args.d (there-listed c.args.self.now c.args.d (sym c.in_default.ensures.answer)) _ refl
-        c.lower.new.self c.in_default.ensures.after _ refl,
-    tt,
-  ),
-)
+invariant_of-self-2 c = record {
+  sized = c.args.self.now.sized;
+  sound =
+      settle-sound c.args.self.now c.args.d (there-listed c.args.self.now c.args.d (sym c.in_default.ensures.answer)) _ refl
+        c.lower.new.self c.in_default.ensures.after _ refl;
+}
 
 pub returns : goal.returns
 returns c =

@@ -13,10 +13,11 @@ write_record-requires c = record {
 }
 
 pub invariant_of-self : goal.invariant_of-self
-invariant_of-self c = (
-  c.args.self.now.sized,
-  (wrote-sound c.args.self.now c.args.t c.args.number c.args.cost c.requires.ready c.requires.cheap c.in-Ok.change (sym c.in-Ok.ensures) c.volume_of-volume.result c.volume_of-volume.ensures (c.args.self.now.worst - c.args.cost) refl c.lower.new.self c.in-Ok-lower.ensures.after _ c.write_record.ensures, tt),
-)
+invariant_of-self c = record {
+  sized = c.args.self.now.sized;
+  sound =
+      wrote-sound c.args.self.now c.args.t c.args.number c.args.cost c.requires.ready c.requires.cheap c.in-Ok.change (sym c.in-Ok.ensures) c.volume_of-volume.result c.volume_of-volume.ensures (c.args.self.now.worst - c.args.cost) refl c.lower.new.self c.in-Ok-lower.ensures.after _ c.write_record.ensures;
+}
 
 pub returns : goal.returns
 returns c = record {

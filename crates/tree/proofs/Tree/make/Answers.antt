@@ -14,10 +14,15 @@ within room zero l = omega arith
 within room (suc d) l = absurd (omega arith)
 
 pub invariant_of-result : goal.invariant_of-result
-invariant_of-result c = (
-  (omega arith, omega arith, omega arith),
-  ((refl, refl, refl), (λ k gt l. omega arith, (kept, (within _, (λ d l some. absurd (some (one d l)), ((refl, refl, refl), tt)))))),
-)
+invariant_of-result c = record {
+  sized = (omega arith, omega arith, omega arith);
+  lengths = (refl, refl, refl);
+  rooted = λ k gt l. omega arith;
+  kept = kept;
+  within = within _;
+  reserved = λ d l some. absurd (some (one d l));
+  root = (refl, refl, refl);
+}
   where
     one : (d : ℕ) → d < 1 → (get_or (blank ∷ []) d blank).quota ≡ 0
     one zero l = refl

@@ -1,4 +1,4 @@
-use Rattle.std.proofs.Common.{◌≡◌, ℕ, ◌<◌, ◌∙◌, arith}
+use Rattle.std.proofs.Common.{◌<◌, ◌∙◌, arith}
 use Rattle.pool.proofs.Turns.{full-before, lowest_before, byte_bit}
 use Rattle.pool.proofs.bitmap.Bitmap.first_in.Goals as goal
 

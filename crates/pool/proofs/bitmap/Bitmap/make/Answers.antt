@@ -1,4 +1,4 @@
-use Rattle.std.proofs.Common.{◌≡◌, ℕ, List, sym, refl, ap, ◌∙◌, subst}
+use Rattle.std.proofs.Common.{ℕ, List, sym, refl, ap, ◌∙◌, subst}
 use Rattle.pool.specs.Marks.{bit_at, marks, Mapped}
 use Rattle.pool.proofs.Turns.{cleared-above, cleared_mapped, cleared-marks}
 use Rattle.pool.proofs.bitmap.Bitmap.make.Goals as goal

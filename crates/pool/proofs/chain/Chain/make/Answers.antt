@@ -1,4 +1,4 @@
-use Rattle.std.proofs.Common.{◌≡◌, ℕ, List, sym, refl, ap, ◌∙◌, subst}
+use Rattle.std.proofs.Common.{ℕ, List, sym, refl, ap, ◌∙◌, subst}
 use Rattle.pool.specs.Links.{taken, Linked}
 use Rattle.pool.proofs.Chains.{new-linked, new-taken}
 use Rattle.pool.proofs.chain.Chain.make.Goals as goal
