@@ -1,5 +1,5 @@
 -- What is printed of a table.
-use Rattle.std.specs.Prelude.{ℕ, List, [], ◌∷◌, ◌++◌, codes, decimal}
+use Rattle.std.specs.Prelude.{ℕ, List, [], ◌++◌, codes, decimal}
 use Rattle.figure_table.specs.declared.judge.Verdict.{Verdict}
 use Rattle.figure_table.specs.declared.judge.Verdict.TheVariants.{Comment, Agrees, Differs, Unreadable}
 use Rattle.figure_table.specs.declared.tally.Tally.{Tally}

@@ -1,5 +1,5 @@
 -- A figure as a line of text.
-use Rattle.std.specs.Prelude.{ℕ, ◌^◌, ◌<◌, List, [], ◌∷◌, ◌++◌, codes, decimal}
+use Rattle.std.specs.Prelude.{ℕ, ◌^◌, ◌<◌, List, [], ◌++◌, codes, decimal}
 use Rattle.orders.specs.Layout.{layer_number}
 use Rattle.figure_table.specs.declared.figure.Policy.{Policy}
 use Rattle.figure_table.specs.declared.figure.Policy.TheVariants.{Copies, Parity}

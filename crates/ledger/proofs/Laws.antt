@@ -1,5 +1,5 @@
 -- What an order does keeps the ledger sound and lengthens each journal that stands.
-use Rattle.std.proofs.Common.{◌≡◌, ℕ, ◌<◌, ◌≤◌, Bool, false, List, [], ◌∷◌, length, replicate, sym, refl, ap, ◌∙◌, subst, arith}
+use Rattle.std.proofs.Common.{◌≡◌, ℕ, ◌<◌, ◌≤◌, Bool, false, List, [], ◌∷◌, length, replicate, sym, refl, ap, ◌∙◌, subst}
 use Rattle.std.proofs.lemmas.List.{length-replicate}
 use Rattle.costs.specs.Costs.{Bounded}
 use Rattle.orders.specs.declared.answer.Answer.{Answer}
@@ -17,10 +17,9 @@ use Rattle.rules.specs.Invariant.{Fair}
 use Rattle.rules.specs.Standing.{entry, Standing}
 use Rattle.rules.proofs.Journals.{fair-fresh, fair-step}
 use Rattle.rules.proofs.Standings.{standing-fresh, standing-next}
-use Rattle.marks.specs.declared.marks.Marks.{Marks}
-use Rattle.marks.specs.Sound.{Sound as MarksSound, pool_of as pool_in, holders_of as holders_in, size_of}
+use Rattle.marks.specs.Sound.{Sound as MarksSound}
 use Rattle.tally.specs.declared.Tally.{Tally}
-use Rattle.tally.specs.Parts.{book_of as book_in, figures_of, Same, Left, Did as TallyDid, Fresh}
+use Rattle.tally.specs.Parts.{figures_of, Left, Did as TallyDid, Fresh}
 use Rattle.ledger.specs.declared.Ledger.{Ledger}
 use Rattle.ledger.specs.Parts.{book_of, holders_of, pool_of, figures, Stands, Sound, Untouched, PoolKept, Did}
 

@@ -1,24 +1,22 @@
 -- What the orders do that move units, from what the tally and the marks do.
-use Rattle.std.proofs.Common.{◌≡◌, ℕ, zero, suc, ◌+◌, ◌-◌, ◌<◌, ◌≤◌, Bool, true, false, List, [], ◌∷◌, map, length, get_or, Ok, Err, Result, sym, refl, ap, ◌∙◌, subst, arith}
-use Rattle.orders.specs.declared.answer.Answer.{Answer}
+use Rattle.std.proofs.Common.{◌≡◌, ℕ, zero, suc, ◌+◌, ◌-◌, ◌≤◌, Bool, List, map, Ok, sym, refl, ap, ◌∙◌, subst, arith}
 use Rattle.orders.specs.declared.answer.Answer.TheVariants.{Done, Refused}
 use Rattle.orders.specs.declared.answer.Refusal.{Refusal}
 use Rattle.orders.specs.Meaning.{Meaning, folder, volume, quota, reserve, resize, begin, hold_writes, hold_frees, assign, abort, write, free, commit, turn, tell}
 use Rattle.pool.specs.Units.{outs}
 use Rattle.rules.specs.declared.state.Holder.{Holder}
-use Rattle.rules.specs.declared.state.Holder.TheVariants.{Nobody, Record}
-use Rattle.rules.specs.Figures.{Figures, Sane}
-use Rattle.rules.specs.Book.{Book, transaction, records, volume_of}
+use Rattle.rules.specs.declared.state.Holder.TheVariants.{Record}
+use Rattle.rules.specs.Figures.{Figures}
+use Rattle.rules.specs.Book.{transaction, records, volume_of}
 use Rattle.rules.specs.Answers.{answer}
 use Rattle.rules.specs.Effects.{next}
 use Rattle.rules.specs.Holders.{defer, release, handed}
 use Rattle.rules.specs.Marks.{mark, defer_from}
-use Rattle.rules.specs.Journal.{book_after, holders_after}
-use Rattle.rules.specs.Theorems.{Moves, Moved, Fits, given_back}
+use Rattle.rules.specs.Journal.{book_after}
+use Rattle.rules.specs.Theorems.{Moves, Fits, given_back}
 use Rattle.rules.proofs.Accepted.{write_ok}
 use Rattle.rules.proofs.Finds.{finds}
 use Rattle.marks.specs.declared.marks.Marks.{Marks}
-use Rattle.marks.specs.declared.fault.MarksFault.{MarksFault}
 use Rattle.marks.specs.Sound.{Sound as MarksSound, pool_of as pool_in, holders_of as holders_in, size_of, returned, take_answer, TookFor}
 use Rattle.marks.proofs.Takes.{answer_ok}
 use Rattle.tally.specs.declared.Tally.{Tally}

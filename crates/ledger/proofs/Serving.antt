@@ -1,5 +1,5 @@
 -- Orders obeyed one after the other.
-use Rattle.std.proofs.Common.{◌≡◌, ℕ, zero, suc, ◌+◌, ◌<◌, ◌≤◌, Bool, true, false, cond, leb, List, [], ◌∷◌, ◌++◌, map, length, get_or, take, drop, set, Ok, Err, Result, sym, refl, ap, ◌∙◌, subst, append_assoc, arith}
+use Rattle.std.proofs.Common.{◌≡◌, ℕ, suc, ◌+◌, ◌<◌, ◌≤◌, Bool, true, false, cond, leb, List, [], ◌∷◌, ◌++◌, map, length, get_or, take, drop, set, Ok, Err, Result, sym, refl, ap, ◌∙◌, subst, append_assoc, arith}
 use Rattle.std.proofs.lemmas.List.{take_more, drop_more, set_at, map-append, length-map, length-take-le, append-nil}
 use Rattle.std.proofs.lemmas.Bool.{leb-true}
 use Rattle.orders.specs.declared.answer.Answer.{Answer}
@@ -16,7 +16,7 @@ use Rattle.ledger.specs.declared.Ledger.{Ledger}
 use Rattle.ledger.specs.Parts.{book_of, pool_of, figures, Sound, Stands, Untouched}
 use Rattle.ledger.specs.declared.fault.MakeFault.{MakeFault}
 use Rattle.ledger.specs.declared.fault.ServeFault.{ServeFault}
-use Rattle.ledger.specs.declared.fault.ServeFault.TheVariants.{NotMade, FewPlaces}
+use Rattle.ledger.specs.declared.fault.ServeFault.TheVariants.{FewPlaces}
 use Rattle.ledger.specs.Makes.{Made}
 use Rattle.ledger.specs.Serves.{Changeless, AllChangeless, Through, AllServed, planned, made_or}
 

@@ -8,7 +8,7 @@ use Rattle.rules.specs.Figures.{Figures, Sane}
 use Rattle.rules.specs.Book.{Book, fresh}
 use Rattle.rules.specs.Answers.{answer}
 use Rattle.rules.specs.Journal.{Entry, replay, out_after, book_after, holders_after}
-use Rattle.rules.specs.Law.{LawfulState, LawfulEntry}
+use Rattle.rules.specs.Law.{LawfulEntry}
 use Rattle.rules.specs.Theorems.{Moved, Fits}
 use Rattle.rules.specs.Invariant.{Fair}
 use Rattle.rules.specs.Standing.{entry, Standing}

@@ -1,5 +1,5 @@
 -- What each order is answered: the checks in rising number, the first that bites, and otherwise the value. No unit is seen here.
-use Rattle.std.specs.Prelude.{ℕ, suc, ◌+◌, ◌-◌, ◌*◌, Bool, true, false, cond, not, ◌&&◌, ◌||◌, List, [], ◌∷◌, length, drop, pos, Some, None, sum, count_by, Option, ◌==◌, nat_le, nat_lt}
+use Rattle.std.specs.Prelude.{ℕ, suc, ◌+◌, ◌-◌, Bool, cond, not, ◌&&◌, ◌||◌, List, [], ◌∷◌, drop, pos, Some, None, sum, count_by, Option, ◌==◌, nat_le, nat_lt}
 use Rattle.orders.specs.declared.answer.Answer.{Answer}
 use Rattle.orders.specs.declared.answer.Answer.TheVariants.{Done, Refused, Told}
 use Rattle.orders.specs.declared.answer.Layer.TheVariants.{Transactions, Tree}

@@ -1,5 +1,5 @@
 -- The state of a ledger without its units: the datasets and the transactions, and what follows from them.
-use Rattle.std.specs.Prelude.{ℕ, ◌+◌, ◌*◌, Bool, true, false, cond, ◌&&◌, List, [], ◌∷◌, map, length, replicate, sum_by, sum, count_by, ◌==◌, nat_lt, slice_index, slice_index_or}
+use Rattle.std.specs.Prelude.{ℕ, ◌+◌, ◌*◌, Bool, true, false, cond, ◌&&◌, List, [], ◌∷◌, map, length, replicate, sum_by, sum, ◌==◌, nat_lt, slice_index, slice_index_or}
 use Rattle.std.specs.List.{range_with_len}
 use Rattle.charges.specs.declared.Row.{Row}
 use Rattle.charges.specs.Tree.{charge as charge_of, weight as weight_in}

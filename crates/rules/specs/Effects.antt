@@ -1,12 +1,12 @@
 -- What an accepted order does to the book. A record's units come from the policy's cost alone; no unit is seen here.
-use Rattle.std.specs.Prelude.{ℕ, zero, suc, ◌+◌, ◌-◌, List, [], ◌∷◌, ◌++◌, map, length, slice_index, slice_set}
+use Rattle.std.specs.Prelude.{ℕ, zero, suc, ◌+◌, ◌-◌, [], ◌∷◌, ◌++◌, map, slice_index, slice_set}
 use Rattle.orders.specs.Meaning.{Meaning, folder, volume, quota, reserve, resize, begin, hold_writes, hold_frees, assign, abort, write, free, commit, turn, tell}
 use Rattle.rules.specs.declared.state.Kind.TheVariants.{Folder, Volume}
 use Rattle.rules.specs.declared.state.Contents.{Contents}
 use Rattle.rules.specs.declared.state.Transaction.{Transaction}
 use Rattle.rules.specs.declared.state.Transaction.TheVariants.{Idle, Created, Held, Assigned}
 use Rattle.rules.specs.Figures.{Figures}
-use Rattle.rules.specs.Book.{Dataset, Book, dataset, transaction, empty, new, records, volume_of, writes_of, frees_of}
+use Rattle.rules.specs.Book.{Dataset, Book, dataset, transaction, empty, new, volume_of, writes_of, frees_of}
 
 abbrev pub with_units : Contents → ℕ → ℕ → Contents
 with_units c r n = record { name = c.name; records = c.records; units = slice_set c.units r n; deferred = c.deferred }

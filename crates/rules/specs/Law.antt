@@ -1,9 +1,8 @@
 -- The law over whole journals.
-use Rattle.std.specs.Prelude.{◌≡◌, ℕ, ◌^◌, ◌<◌, ◌≤◌, Bool, true, false, ◌⊎◌, ◌↔◌, List, [], ◌∷◌, length, ◌≢◌, slice_index_or}
+use Rattle.std.specs.Prelude.{◌≡◌, ℕ, ◌^◌, ◌<◌, ◌≤◌, Bool, false, ◌⊎◌, ◌↔◌, List, [], ◌∷◌, length, ◌≢◌, slice_index_or}
 use Rattle.orders.specs.declared.answer.Answer.{Answer}
 use Rattle.orders.specs.declared.answer.Answer.TheVariants.{Done, Refused, Told, Stopped}
 use Rattle.orders.specs.declared.answer.Layer.{Layer}
-use Rattle.orders.specs.declared.answer.Layer.TheVariants.{Transactions, Tree}
 use Rattle.orders.specs.Meaning.{Meaning, assign, reserve, write}
 use Rattle.charges.specs.declared.Row.{Row}
 use Rattle.charges.specs.Amounts.{weight_of}
@@ -17,7 +16,7 @@ use Rattle.rules.specs.Figures.{Figures, room}
 use Rattle.rules.specs.Book.{Book, dataset, transaction, made, records, units, deferred, estimate, rows, charge}
 use Rattle.rules.specs.Answers.{refused_by_tree, answer}
 use Rattle.rules.specs.Holders.{count, is_held}
-use Rattle.rules.specs.Journal.{Entry, State, replay, out_after}
+use Rattle.rules.specs.Journal.{Entry, replay, out_after}
 
 -- a holder is a record of a volume, or a volume
 abbrev pub Exists : Book → Holder → Type 0

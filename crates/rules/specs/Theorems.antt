@@ -7,7 +7,6 @@ use Rattle.orders.specs.Meaning.{Meaning, folder, volume, quota, reserve, resize
 use Rattle.rules.specs.declared.state.Holder.{Holder}
 use Rattle.rules.specs.declared.state.Holder.TheVariants.{Nobody}
 use Rattle.rules.specs.Figures.{Figures, Sane}
-use Rattle.rules.specs.Book.{Book}
 use Rattle.rules.specs.Answers.{answer}
 use Rattle.rules.specs.Holders.{is_deferred}
 use Rattle.rules.specs.Journal.{Entry, replay, out_after}

@@ -1,12 +1,12 @@
 -- Worked figures and worked journals: the definitions computed, and held against numbers and bytes written by hand.
-use Rattle.std.specs.Prelude.{◌≡◌, ℕ, ◌+◌, Bool, true, false, cond, ◌&&◌, List, [], ◌∷◌, ◌++◌, replicate, ℤ, pos, negsuc, ◌==◌}
+use Rattle.std.specs.Prelude.{◌≡◌, ℕ, ◌+◌, Bool, true, false, ◌&&◌, List, [], ◌∷◌, ◌++◌, replicate, ℤ, pos, negsuc, ◌==◌}
 use Rattle.std.specs.List.{range_with_len}
 use Rattle.orders.specs.declared.answer.Answer.{Answer}
 use Rattle.orders.specs.Meaning.{Meaning, folder, volume, quota, reserve, resize, begin, hold_writes, hold_frees, assign, abort, write, free, commit, turn, tell}
 use Rattle.orders.specs.Layout.{answer_bytes}
 use Rattle.costs.specs.Costs.{copies_cost, parity_cost}
 use Rattle.charges.specs.Amounts.{weight_of, limit_of, excess, passed}
-use Rattle.rules.specs.Figures.{Figures, room}
+use Rattle.rules.specs.Figures.{Figures}
 use Rattle.rules.specs.Book.{Book, fresh}
 use Rattle.rules.specs.Answers.{answer}
 use Rattle.rules.specs.Journal.{book_after}

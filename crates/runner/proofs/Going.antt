@@ -1,5 +1,5 @@
 -- How far a run has come: what was exchanged, and what is left to say.
-use Rattle.std.proofs.Common.{◌≡◌, ℕ, zero, suc, ◌+◌, ◌<◌, ◌≤◌, Bool, true, false, cond, ltb, List, [], ◌∷◌, ◌++◌, length, set, Option, sym, refl, ap, ◌∙◌, subst, append_assoc, arith}
+use Rattle.std.proofs.Common.{◌≡◌, ℕ, zero, suc, ◌+◌, ◌<◌, ◌≤◌, cond, ltb, List, [], ◌∷◌, ◌++◌, length, set, Option, sym, refl, ap, ◌∙◌, append_assoc, arith}
 use Rattle.std.proofs.lemmas.List.{length-append, length_push, append-nil}
 use Rattle.std.proofs.lemmas.Bool.{lt-ltb, le-ltb, cond-true, cond-false}
 use Rattle.orders.specs.Meaning.{Meaning}
@@ -14,7 +14,7 @@ use Rattle.reader.specs.declared.fault.ReadFault.{ReadFault}
 use Rattle.runner.specs.declared.ended.Stop.{Stop}
 use Rattle.runner.specs.declared.ended.Stop.TheVariants.{End, Fault}
 use Rattle.runner.specs.declared.ended.Ended.{Ended}
-use Rattle.runner.specs.declared.fault.ScriptFault.TheVariants.{TooLong, Unreadable, NoRoom}
+use Rattle.runner.specs.declared.fault.ScriptFault.TheVariants.{Unreadable, NoRoom}
 use Rattle.runner.specs.Runs.{Ran, more, ends, ran_from, exchanges_in, stop_of, end_of}
 
 -- exchanges, and then the rest of a run

@@ -1,12 +1,11 @@
 -- A run under way: the ledger is sound, and went through what was exchanged so far.
-use Rattle.std.proofs.Common.{◌≡◌, ℕ, ◌+◌, ◌<◌, ◌≤◌, Bool, true, List, [], ◌∷◌, ◌++◌, length, Some, Ok, Option, sym, refl, ap, ◌∙◌, subst, arith}
+use Rattle.std.proofs.Common.{◌≡◌, ℕ, ◌+◌, ◌<◌, ◌≤◌, Bool, List, [], ◌∷◌, ◌++◌, length, Some, Ok, Option, sym, ap, ◌∙◌, subst, arith}
 use Rattle.std.proofs.lemmas.Bool.{cond-true, cond-false, le-ltb, lt-ltb}
 use Rattle.orders.specs.declared.answer.Answer.{Answer}
 use Rattle.orders.specs.declared.order.Order.{Order}
 use Rattle.orders.specs.Meaning.{Meaning, meaning, name_place}
 use Rattle.orders.specs.Layout.{answer_bytes, laid}
 use Rattle.rules.specs.Figures.{Figures}
-use Rattle.rules.specs.Book.{Book}
 use Rattle.rules.specs.Answers.{answer}
 use Rattle.rules.specs.Journal.{book_after}
 use Rattle.rules.specs.Served.{Exchange, exchange, bytes_of}

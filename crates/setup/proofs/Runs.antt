@@ -6,11 +6,10 @@ use Rattle.costs.specs.Costs.{largest, copies_cost, parity_cost}
 use Rattle.orders.specs.Layout.{laid}
 use Rattle.rules.specs.Figures.{Figures}
 use Rattle.rules.specs.Book.{Book, fresh}
-use Rattle.rules.specs.Journal.{Entry}
 use Rattle.rules.specs.Standing.{Standing}
-use Rattle.rules.specs.Served.{Exchange, bytes_of, book_then, exchanges}
+use Rattle.rules.specs.Served.{bytes_of, book_then, exchanges}
 use Rattle.ledger.specs.declared.Ledger.{Ledger}
-use Rattle.ledger.specs.Parts.{book_of, holders_of, pool_of, figures, Sound, Stands}
+use Rattle.ledger.specs.Parts.{book_of, holders_of, pool_of, figures, Stands}
 use Rattle.ledger.specs.Makes.{Made, any_out, check_answer}
 use Rattle.ledger.specs.Serves.{Through, planned}
 use Rattle.ledger.proofs.Outs.{none_out}

@@ -16,7 +16,7 @@ use Rattle.tally.specs.declared.step.Asked.{Asked}
 use Rattle.tally.specs.declared.step.Asked.TheVariants.{Begin, HoldWrites, HoldFrees, Assign, Abort, Write, Free, Commit}
 use Rattle.tally.specs.declared.step.Change.{Change}
 use Rattle.tally.specs.Faults.{refusal_of}
-use Rattle.tally.specs.Steps.{counted_or, left_or, wrong, step_of, changed_by, change_of}
+use Rattle.tally.specs.Steps.{step_of, changed_by, change_of}
 
 -- what is answered after a check
 abbrev pub and_then : {X : Type 0} → Result X LedgerFault → (X → Answer) → Answer

@@ -1,19 +1,19 @@
 -- Own units are few: all charges stay within the room.
-use Rattle.std.proofs.Common.{◌≡◌, ℕ, ◌+◌, ◌<◌, ◌≤◌, List, [], length, get_or, sum, sym, ap, ◌∙◌, arith}
+use Rattle.std.proofs.Common.{◌≡◌, ℕ, ◌+◌, ◌<◌, ◌≤◌, length, get_or, sym, ap, ◌∙◌, arith}
 use Rattle.std.proofs.lemmas.List.Sums.{get_or-le-sum_by}
-use Rattle.charges.specs.Tree.{row, charge}
+use Rattle.charges.specs.Tree.{charge}
 use Rattle.charges.proofs.Bounds.{bound_law}
 use Rattle.charges.proofs.Charge.{charge_equation}
 use Rattle.charges.proofs.Limits.{limit-law}
 use Rattle.rules.specs.declared.state.Contents.{Contents}
 use Rattle.rules.specs.Figures.{room}
-use Rattle.rules.specs.Book.{Dataset, dataset, made, own, rows, record_units, deferred, unspent_grants}
-use Rattle.rules.proofs.Rows.{rows-length, row-own, in_rows, rows-rooted, rows-reserved, held_by}
-use Rattle.tree.specs.Parts.{rows_of, kinds_of}
+use Rattle.rules.specs.Book.{Dataset, dataset, made, own, rows}
+use Rattle.rules.proofs.Rows.{row-own, in_rows, rows-rooted, rows-reserved, held_by}
+use Rattle.tree.specs.Parts.{rows_of}
 use Rattle.tally.specs.declared.Tally.{Tally}
 use Rattle.tally.specs.Joined.{contents_at}
 use Rattle.tally.specs.Parts.{book_of, figures_of}
-use Rattle.tally.proofs.Sounds.{sound, made-is, dataset-is, shaped}
+use Rattle.tally.proofs.Sounds.{made-is, dataset-is, shaped}
 
 module _ (t : Tally) (cost : ℕ → ℕ) (d : ℕ) (l : d < made (book_of t)) where
   pub charge-few : charge (rows (figures_of cost t) (book_of t)) d ≤ t.size

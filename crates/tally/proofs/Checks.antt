@@ -1,15 +1,14 @@
 -- The tree's checks against those of the rules.
-use Rattle.std.proofs.Common.{◌≡◌, ℕ, ◌<◌, Bool, true, false, cond, ◌&&◌, eqb, ltb, leb, List, length, Ok, Err, Option, Result, sym, refl, ap, ◌∙◌}
+use Rattle.std.proofs.Common.{◌≡◌, ℕ, Bool, true, false, cond, ◌&&◌, ltb, List, length, Ok, Err, Option, refl, ap, ◌∙◌}
 use Rattle.std.proofs.lemmas.Bool.{ltb-true}
 use Rattle.orders.specs.declared.answer.Answer.{Answer}
 use Rattle.rules.specs.declared.state.Kind.{Kind}
 use Rattle.rules.specs.declared.state.Kind.TheVariants.{Folder, Volume}
 use Rattle.rules.specs.declared.state.Contents.{Contents}
 use Rattle.rules.specs.declared.state.Transaction.{Transaction}
-use Rattle.rules.specs.Book.{Dataset, dataset, made, is_folder, is_volume, is_folder_kind, is_volume_kind}
+use Rattle.rules.specs.Book.{Dataset, dataset, made, is_volume, is_volume_kind}
 use Rattle.rules.specs.Answers.{refused_by_tree}
 use Rattle.tree.specs.declared.Tree.{Tree}
-use Rattle.tree.specs.declared.fault.TreeFault.{TreeFault}
 use Rattle.tree.specs.declared.fault.TreeFault.TheVariants.{Missing}
 use Rattle.tree.specs.Parts.{rows_of, kinds_of}
 use Rattle.tree.specs.Answers.{if_volume, kind_in, as_volume}

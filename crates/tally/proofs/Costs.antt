@@ -1,12 +1,12 @@
 -- The tree's rows do not depend on what a write costs, only on the worst that it may cost.
-use Rattle.std.proofs.Common.{◌≡◌, ℕ, ◌+◌, ◌-◌, ◌*◌, ◌<◌, cond, eqb, List, [], ◌∷◌, length, sum_by, sym, refl, ap, ◌∙◌, subst, arith}
+use Rattle.std.proofs.Common.{◌≡◌, ℕ, ◌-◌, List, [], ◌∷◌, sum_by, sym, refl, ap, ◌∙◌, subst, arith}
 use Rattle.std.proofs.lemmas.List.Sums.{sum_by-cons}
 use Rattle.charges.specs.declared.Row.{Row}
 use Rattle.charges.specs.Tree.{WithinLimits}
 use Rattle.rules.specs.declared.state.Transaction.{Transaction}
 use Rattle.rules.specs.declared.state.Transaction.TheVariants.{Idle, Created, Held, Assigned}
-use Rattle.rules.specs.Figures.{Figures, room}
-use Rattle.rules.specs.Book.{Book, dataset, made, grant_on, unspent_grants, own, row_at, rows}
+use Rattle.rules.specs.Figures.{Figures}
+use Rattle.rules.specs.Book.{Book, dataset, grant_on, own, rows}
 use Rattle.rules.specs.Invariant.{Shaped}
 use Rattle.rules.proofs.Rows.{rows_is, rows-length, rows_at}
 use Rattle.rules.proofs.Edits.{formed, shaped-within}

@@ -1,5 +1,5 @@
 -- A volume cut to fewer records, or given more.
-use Rattle.std.proofs.Common.{◌≡◌, ℕ, zero, suc, ◌+◌, ◌-◌, ◌^◌, ◌<◌, ◌≤◌, Bool, true, false, cond, ◌&&◌, ltb, leb, List, [], ◌∷◌, length, get_or, drop, set, None, Ok, Err, sum, Result, sym, refl, ap, ◌∙◌, subst, inl, inr, add-zero, add-one, arith}
+use Rattle.std.proofs.Common.{◌≡◌, ℕ, zero, suc, ◌+◌, ◌-◌, ◌^◌, ◌<◌, ◌≤◌, Bool, true, false, cond, List, [], ◌∷◌, length, get_or, drop, set, None, Ok, Err, sum, Result, sym, refl, ap, ◌∙◌, subst, inl, inr, add-zero, add-one, arith}
 use Rattle.std.proofs.lemmas.List.{length-set, get_or-drop, drop-set-lt}
 use Rattle.std.proofs.lemmas.List.Sums.{sum_by-cons, sum_by-drop_more, get_or-le-sum_by}
 use Rattle.std.proofs.lemmas.Bool.{cases_lt}
@@ -7,10 +7,9 @@ use Rattle.orders.specs.declared.answer.Answer.{Answer}
 use Rattle.orders.specs.declared.answer.Answer.TheVariants.{Done, Refused}
 use Rattle.orders.specs.Meaning.{resize}
 use Rattle.rules.specs.declared.state.Contents.{Contents}
-use Rattle.rules.specs.declared.state.Transaction.{Transaction}
-use Rattle.rules.specs.Book.{Dataset, Book, dataset, made, is_volume, records, rows}
+use Rattle.rules.specs.Book.{Dataset, dataset, made, records}
 use Rattle.rules.specs.Answers.{refused_by_tree, records_fit, answer}
-use Rattle.rules.specs.Effects.{emptied, emptied_from, with_records, resized, holding, with_contents, next}
+use Rattle.rules.specs.Effects.{emptied, emptied_from, with_records, resized, holding, next}
 use Rattle.rules.specs.Invariant.{ShapedContents}
 use Rattle.rules.proofs.Accepted.{resize_ok}
 use Rattle.rules.proofs.Rows.{held_by, units-emptied_from, held-emptied_from, rows-resize}
@@ -20,7 +19,6 @@ use Rattle.tree.specs.declared.fault.TreeFault.TheVariants.{RecordCount}
 use Rattle.tree.specs.Parts.{rows_of, kinds_of}
 use Rattle.tree.specs.Answers.{as_volume, if_records}
 use Rattle.tally.specs.declared.Tally.{Tally}
-use Rattle.tally.specs.declared.fault.LedgerFault.{LedgerFault}
 use Rattle.tally.specs.declared.fault.LedgerFault.TheVariants.{InTree}
 use Rattle.tally.specs.Faults.{refusal_of}
 use Rattle.tally.specs.Joined.{contents_at, book_in}
@@ -31,7 +29,7 @@ use Rattle.tally.proofs.Asks.{and_then}
 use Rattle.tally.proofs.Bounds.{contents-is, held-few}
 use Rattle.tally.proofs.Checks.{volume_check}
 use Rattle.tally.proofs.Joins.{datasets-contents}
-use Rattle.tally.proofs.Sounds.{sound, made-is, rows_are, shaped, still-sound, refused_did, done_did}
+use Rattle.tally.proofs.Sounds.{sound, made-is, rows_are, shaped, still-sound, refused_did}
 
 -- one record more
 emptied-more : (k r : ℕ) (c : Contents) → emptied (emptied_from r k c) (r + k) ≡ emptied_from r (suc k) c

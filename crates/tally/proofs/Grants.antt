@@ -1,7 +1,6 @@
 -- Grants: assigned, and given back by a commit.
-use Rattle.std.proofs.Common.{◌≡◌, ℕ, ◌+◌, ◌-◌, ◌*◌, ◌<◌, ◌≤◌, cond, ltb, ◌≢◌, List, length, set, pos, Some, None, Ok, Err, Option, Result, sym, refl, ap, ◌∙◌, subst, arith}
+use Rattle.std.proofs.Common.{◌≡◌, ℕ, ◌+◌, ◌-◌, ◌*◌, ◌<◌, ◌≤◌, ltb, ◌≢◌, List, length, set, pos, Some, None, Ok, Err, Option, Result, sym, refl, ap, ◌∙◌, arith}
 use Rattle.std.proofs.lemmas.Bool.{lt-ltb, cond-true}
-use Rattle.orders.specs.declared.answer.Answer.{Answer}
 use Rattle.orders.specs.declared.answer.Answer.TheVariants.{Done, Refused}
 use Rattle.orders.specs.Meaning.{assign, commit}
 use Rattle.charges.specs.declared.Row.{Row}
@@ -11,8 +10,8 @@ use Rattle.rules.specs.declared.state.Kind.{Kind}
 use Rattle.rules.specs.declared.state.Contents.{Contents}
 use Rattle.rules.specs.declared.state.Transaction.{Transaction}
 use Rattle.rules.specs.declared.state.Transaction.TheVariants.{Idle, Held, Assigned}
-use Rattle.rules.specs.Figures.{Figures, room}
-use Rattle.rules.specs.Book.{Dataset, Book, transaction, made, volume_of, writes_of, frees_of, estimate, own, rows}
+use Rattle.rules.specs.Figures.{room}
+use Rattle.rules.specs.Book.{Dataset, transaction, made, volume_of, writes_of, frees_of, estimate, rows}
 use Rattle.rules.specs.Answers.{unless_short, answer}
 use Rattle.rules.specs.Effects.{with_transaction, next}
 use Rattle.rules.proofs.Rows.{row-own, rows-assign, rows-commit}
@@ -23,18 +22,17 @@ use Rattle.tree.specs.declared.fault.TreeFault.TheVariants.{Missing}
 use Rattle.tree.specs.Parts.{rows_of, kinds_of, room_of, Becomes}
 use Rattle.tree.specs.Answers.{if_granted, as_dataset, raise_answer}
 use Rattle.tally.specs.declared.Tally.{Tally}
-use Rattle.tally.specs.declared.fault.LedgerFault.{LedgerFault}
 use Rattle.tally.specs.declared.fault.LedgerFault.TheVariants.{InTree}
 use Rattle.tally.specs.declared.step.Asked.TheVariants.{Assign, Commit}
 use Rattle.tally.specs.declared.step.Change.{Change}
 use Rattle.tally.specs.Faults.{refusal_of}
 use Rattle.tally.specs.Joined.{datasets_in, book_in}
-use Rattle.tally.specs.Parts.{book_of, figures_of, Same, Did}
+use Rattle.tally.specs.Parts.{book_of, figures_of, Did}
 use Rattle.tally.specs.Sound.{Sound}
 use Rattle.tally.specs.Steps.{lifted, change_of}
 use Rattle.tally.proofs.Asks.{and_then, allowed, goes_on, granted, assign_steps, estimated, commit_steps, assigned, committed}
 use Rattle.tally.proofs.Joins.{datasets-own}
-use Rattle.tally.proofs.Sounds.{sound, made-is, rows_are, shaped, still-sound, refused_did, done_did}
+use Rattle.tally.proofs.Sounds.{sound, made-is, rows_are, shaped, still-sound, refused_did}
 
 -- other own units in the tree leave the book
 pub own-book : (tree tree' : Tree) (v x : ℕ) → v < length (rows_of tree) → Becomes tree tree' (with_own (rows_of tree) v x) (kinds_of tree) →

@@ -1,29 +1,26 @@
 -- New datasets.
-use Rattle.std.proofs.Common.{◌≡◌, ℕ, ◌<◌, ◌≤◌, Bool, true, false, cond, ◌&&◌, ltb, leb, List, [], ◌∷◌, ◌++◌, length, set, None, Ok, Err, Option, Result, sym, refl, ap, ◌∙◌, subst, arith}
+use Rattle.std.proofs.Common.{◌≡◌, ℕ, ◌<◌, Bool, true, false, cond, ◌&&◌, ltb, List, [], ◌∷◌, ◌++◌, length, set, None, Ok, Err, Result, sym, refl, ap, ◌∙◌, subst, arith}
 use Rattle.std.proofs.lemmas.List.{length-set, length-take-le}
 use Rattle.orders.specs.declared.answer.Answer.{Answer}
 use Rattle.orders.specs.declared.answer.Answer.TheVariants.{Done, Refused}
-use Rattle.orders.specs.Meaning.{Meaning, folder, volume}
+use Rattle.orders.specs.Meaning.{folder, volume}
 use Rattle.charges.specs.declared.Row.{Row}
 use Rattle.rules.specs.declared.state.Kind.{Kind}
 use Rattle.rules.specs.declared.state.Kind.TheVariants.{Folder, Volume}
 use Rattle.rules.specs.declared.state.Contents.{Contents}
-use Rattle.rules.specs.declared.state.Transaction.{Transaction}
-use Rattle.rules.specs.Figures.{Figures}
-use Rattle.rules.specs.Book.{Dataset, Book, new, empty, made, is_folder, is_folder_kind, rows}
+use Rattle.rules.specs.Book.{Dataset, new, empty, made, is_folder_kind, rows}
 use Rattle.rules.specs.Answers.{refused_by_tree, records_fit, to_make, answer}
 use Rattle.rules.specs.Effects.{with_new, next}
 use Rattle.rules.specs.Invariant.{Shaped}
-use Rattle.rules.proofs.Rows.{new_row, held_by, held-empty, rows_new}
+use Rattle.rules.proofs.Rows.{held_by, held-empty, rows_new}
 use Rattle.rules.proofs.Accepted.{folder_ok, volume_ok}
 use Rattle.rules.proofs.Shapes.{shaped-folder, shaped-volume}
 use Rattle.tree.specs.declared.Tree.{Tree}
 use Rattle.tree.specs.declared.fault.TreeFault.{TreeFault}
 use Rattle.tree.specs.declared.fault.TreeFault.TheVariants.{Missing, Full, RecordCount}
-use Rattle.tree.specs.Parts.{rows_of, kinds_of, room_of, Becomes}
+use Rattle.tree.specs.Parts.{rows_of, kinds_of, Becomes}
 use Rattle.tree.specs.Answers.{if_folder, kind_in, child, folder_answer, volume_answer}
 use Rattle.tally.specs.declared.Tally.{Tally}
-use Rattle.tally.specs.declared.fault.LedgerFault.{LedgerFault}
 use Rattle.tally.specs.declared.fault.LedgerFault.TheVariants.{InTree}
 use Rattle.tally.specs.Faults.{refusal_of}
 use Rattle.tally.specs.Joined.{datasets_in, book_in}
@@ -33,7 +30,7 @@ use Rattle.tally.specs.Steps.{lifted}
 use Rattle.tally.proofs.Asks.{and_then}
 use Rattle.tally.proofs.Checks.{kind-asked}
 use Rattle.tally.proofs.Joins.{datasets_push}
-use Rattle.tally.proofs.Sounds.{sound, made-is, rows_are, shaped, still-sound, refused_did, done_did}
+use Rattle.tally.proofs.Sounds.{sound, made-is, rows_are, shaped, still-sound, refused_did}
 
 as_many_kinds : (tree : Tree) → length (kinds_of tree) ≡ length (rows_of tree)
 as_many_kinds tree =

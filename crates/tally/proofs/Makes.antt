@@ -1,17 +1,16 @@
 -- A tally as it is made.
-use Rattle.std.proofs.Common.{◌≡◌, ℕ, ◌-◌, List, [], ◌∷◌, length, replicate, sym, refl, ap, ◌∙◌}
+use Rattle.std.proofs.Common.{◌≡◌, ℕ, ◌-◌, List, [], ◌∷◌, replicate, sym, refl, ap, ◌∙◌}
 use Rattle.std.proofs.lemmas.List.{length-replicate}
 use Rattle.charges.specs.declared.Row.{Row}
 use Rattle.charges.specs.Tree.{blank}
 use Rattle.rules.specs.declared.state.Kind.{Kind}
 use Rattle.rules.specs.declared.state.Kind.TheVariants.{Folder}
 use Rattle.rules.specs.declared.state.Contents.{Contents}
-use Rattle.rules.specs.declared.state.Transaction.{Transaction}
 use Rattle.rules.specs.declared.state.Transaction.TheVariants.{Idle}
-use Rattle.rules.specs.Book.{Dataset, Book, empty, root, fresh}
+use Rattle.rules.specs.Book.{Dataset, root, fresh}
 use Rattle.rules.proofs.Shapes.{rows-fresh, shaped_fresh}
 use Rattle.tree.specs.declared.Tree.{Tree}
-use Rattle.tree.specs.Parts.{rows_of, kinds_of, Fresh}
+use Rattle.tree.specs.Parts.{kinds_of, Fresh}
 use Rattle.tally.specs.Joined.{datasets_in, book_in, figures_in}
 use Rattle.tally.specs.Sound.{Sound}
 use Rattle.tally.proofs.Sounds.{sound_by}

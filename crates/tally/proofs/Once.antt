@@ -1,5 +1,5 @@
 -- A tally is sound in one way only, so that its soundness can be taken out of its ghost field.
-use Rattle.std.proofs.Common.{◌≡◌, ℕ, List, refl, subst, arith}
+use Rattle.std.proofs.Common.{◌≡◌, ℕ, List, refl, arith}
 use mathlib.Core.Logic.{∥∥₁_elim}
 use mathlib.Core.HLevel.{Discrete, hedberg}
 use native.Mathlib.Nat.{ℕ_set}

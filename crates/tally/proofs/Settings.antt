@@ -1,5 +1,5 @@
 -- Quotas and reservations set anew.
-use Rattle.std.proofs.Common.{◌≡◌, ℕ, ◌-◌, ◌^◌, ◌<◌, Bool, true, false, cond, not, ◌&&◌, eqb, ltb, List, length, set, Some, None, Ok, Err, Option, Result, sym, refl, ap, ◌∙◌, subst, inl, inr, arith}
+use Rattle.std.proofs.Common.{◌≡◌, ℕ, ◌-◌, ◌^◌, ◌<◌, Bool, true, false, cond, not, ◌&&◌, eqb, ltb, List, length, Some, None, Ok, Err, Option, Result, sym, refl, ap, ◌∙◌, subst, inl, inr, arith}
 use Rattle.std.proofs.lemmas.Bool.{ltb-true, lt-ltb, le-ltb, eq-eqb, ne_eqb, cases_eq}
 use Rattle.orders.specs.declared.answer.Answer.{Answer}
 use Rattle.orders.specs.declared.answer.Answer.TheVariants.{Done, Refused}
@@ -9,12 +9,10 @@ use Rattle.charges.specs.Amounts.{weight_of, reweighed}
 use Rattle.charges.specs.Tree.{row, charge as charge_in, weight as weight_in, with_quota as with_quota_in, with_reservation as with_reservation_in}
 use Rattle.charges.specs.Walk.{walk}
 use Rattle.rules.specs.declared.state.Kind.{Kind}
-use Rattle.rules.specs.declared.state.Contents.{Contents}
-use Rattle.rules.specs.declared.state.Transaction.{Transaction}
-use Rattle.rules.specs.Figures.{Figures, room}
-use Rattle.rules.specs.Book.{Dataset, Book, dataset, made, rows, charge, weight}
+use Rattle.rules.specs.Figures.{room}
+use Rattle.rules.specs.Book.{Dataset, dataset, made}
 use Rattle.rules.specs.Answers.{refused_by_tree, unless_short, is_settable, to_quota, to_reserve, answer}
-use Rattle.rules.specs.Effects.{with_dataset, with_quota, with_reservation, next}
+use Rattle.rules.specs.Effects.{next}
 use Rattle.rules.proofs.Rows.{rows-quota, rows-reserve}
 use Rattle.rules.proofs.Accepted.{quota_ok, reserve_ok}
 use Rattle.rules.proofs.Shapes.{shaped-quota, shaped-reserve}
@@ -24,7 +22,6 @@ use Rattle.tree.specs.declared.fault.TreeFault.TheVariants.{Missing, IsRoot, Quo
 use Rattle.tree.specs.Parts.{rows_of, kinds_of, room_of, Becomes, After}
 use Rattle.tree.specs.Answers.{if_granted, quota_answer, reservation_answer}
 use Rattle.tally.specs.declared.Tally.{Tally}
-use Rattle.tally.specs.declared.fault.LedgerFault.{LedgerFault}
 use Rattle.tally.specs.declared.fault.LedgerFault.TheVariants.{InTree}
 use Rattle.tally.specs.Faults.{refusal_of}
 use Rattle.tally.specs.Joined.{datasets_in, book_in}
@@ -33,7 +30,7 @@ use Rattle.tally.specs.Sound.{Sound}
 use Rattle.tally.specs.Steps.{lifted}
 use Rattle.tally.proofs.Asks.{and_then}
 use Rattle.tally.proofs.Joins.{datasets-quota, datasets-reservation}
-use Rattle.tally.proofs.Sounds.{sound, made-is, dataset-is, rows_are, shaped, still-sound, refused_did, done_did}
+use Rattle.tally.proofs.Sounds.{sound, made-is, dataset-is, rows_are, shaped, still-sound, refused_did}
 
 below_root : (d : ℕ) → ltb 0 d ≡ not (eqb d 0)
 below_root d = elim (cases_eq d 0) [

@@ -1,5 +1,5 @@
 -- What a sound tally's parts say, and that an accepted order leaves it sound.
-use Rattle.std.proofs.Common.{◌≡◌, ℕ, ◌-◌, ◌<◌, ◌≤◌, List, length, get_or, sym, refl, ap, ◌∙◌, subst, arith}
+use Rattle.std.proofs.Common.{◌≡◌, ℕ, ◌-◌, ◌<◌, List, length, sym, ap, ◌∙◌, subst, arith}
 use mathlib.Core.HLevel.{is_prop→PathP}
 use mathlib.Core.Logic.{∥∥₁_prop}
 use Rattle.orders.specs.declared.answer.Answer.TheVariants.{Done, Refused}
@@ -9,11 +9,11 @@ use Rattle.charges.specs.Tree.{row}
 use Rattle.rules.specs.declared.state.Contents.{Contents}
 use Rattle.rules.specs.declared.state.Transaction.{Transaction}
 use Rattle.rules.specs.Figures.{Figures}
-use Rattle.rules.specs.Book.{Dataset, Book, dataset, made, own, row_at, rows}
+use Rattle.rules.specs.Book.{Dataset, Book, dataset, made, own, rows}
 use Rattle.rules.specs.Answers.{answer}
 use Rattle.rules.specs.Effects.{next}
 use Rattle.rules.specs.Invariant.{Shaped}
-use Rattle.rules.proofs.Rows.{rows_is, rows-length, row-own, nowhere}
+use Rattle.rules.proofs.Rows.{rows_is, row-own}
 use Rattle.tree.specs.declared.Tree.{Tree}
 use Rattle.tree.specs.Parts.{rows_of, kinds_of, room_of}
 use Rattle.tally.specs.declared.Tally.{Tally}

@@ -1,15 +1,14 @@
 -- The figures of a dataset.
-use Rattle.std.proofs.Common.{◌≡◌, ℕ, ◌+◌, ◌^◌, ◌<◌, ◌≤◌, Bool, true, false, cond, ltb, List, length, get_or, None, Ok, Err, sum_by, sum, Result, sym, refl, ap, ◌∙◌, arith}
-use Rattle.std.proofs.lemmas.Bool.{ltb-true, lt-ltb, cond-true}
+use Rattle.std.proofs.Common.{◌≡◌, ℕ, ◌^◌, ◌<◌, ◌≤◌, Bool, true, false, cond, ltb, List, length, get_or, None, Ok, Err, sum_by, sum, Result, sym, refl, ap, ◌∙◌, arith}
+use Rattle.std.proofs.lemmas.Bool.{ltb-true, cond-true}
 use Rattle.orders.specs.declared.answer.Answer.{Answer}
-use Rattle.orders.specs.declared.answer.Answer.TheVariants.{Done, Refused, Told}
-use Rattle.orders.specs.declared.answer.Figures.{Figures as Shown}
+use Rattle.orders.specs.declared.answer.Answer.TheVariants.{Refused, Told}
 use Rattle.orders.specs.Meaning.{tell}
 use Rattle.charges.specs.declared.Row.{Row}
 use Rattle.charges.specs.Tree.{charge as charge_in}
 use Rattle.rules.specs.declared.state.Contents.{Contents}
 use Rattle.rules.specs.declared.state.Transaction.TheVariants.{Idle}
-use Rattle.rules.specs.Book.{dataset, made, writes_of, transaction, unspent_grants, charge, rows}
+use Rattle.rules.specs.Book.{dataset, made, writes_of, charge}
 use Rattle.rules.specs.Answers.{refused_by_tree, to_tell, answer}
 use Rattle.tree.specs.declared.fault.TreeFault.{TreeFault}
 use Rattle.tree.specs.declared.fault.TreeFault.TheVariants.{Missing}

@@ -1,14 +1,13 @@
 -- Orders on transactions that grant nothing.
-use Rattle.std.proofs.Common.{◌≡◌, ℕ, ◌+◌, ◌*◌, ◌<◌, ◌≤◌, List, length, set, Some, Ok, Err, Result, sym, refl, ap, ◌∙◌, arith}
+use Rattle.std.proofs.Common.{◌≡◌, ℕ, ◌+◌, ◌*◌, ◌<◌, ◌≤◌, List, length, set, Some, Ok, Err, sym, refl, ap, ◌∙◌, arith}
 use Rattle.orders.specs.declared.answer.Answer.TheVariants.{Done, Refused}
-use Rattle.orders.specs.Meaning.{Meaning, begin, hold_writes, hold_frees, abort}
+use Rattle.orders.specs.Meaning.{begin, hold_writes, hold_frees, abort}
 use Rattle.rules.specs.declared.state.Contents.{Contents}
 use Rattle.rules.specs.declared.state.Transaction.{Transaction}
-use Rattle.rules.specs.declared.state.Transaction.TheVariants.{Idle, Created, Held, Assigned}
-use Rattle.rules.specs.Figures.{Figures}
-use Rattle.rules.specs.Book.{Book, transaction, volume_of, writes_of, frees_of, estimate, grant_on, rows}
+use Rattle.rules.specs.declared.state.Transaction.TheVariants.{Idle, Created, Held}
+use Rattle.rules.specs.Book.{transaction, volume_of, writes_of, frees_of, grant_on}
 use Rattle.rules.specs.Answers.{answer}
-use Rattle.rules.specs.Effects.{with_transaction, next}
+use Rattle.rules.specs.Effects.{with_transaction}
 use Rattle.rules.specs.Invariant.{Shaped}
 use Rattle.rules.proofs.Rows.{rows_idle}
 use Rattle.rules.proofs.Accepted.{begin_ok, hold_writes_ok, hold_frees_ok, abort_ok}
@@ -16,15 +15,14 @@ use Rattle.rules.proofs.Shapes.{shaped-begin, shaped_hold_writes, shaped_hold_fr
 use Rattle.tree.specs.declared.Tree.{Tree}
 use Rattle.tally.specs.declared.Tally.{Tally}
 use Rattle.tally.specs.declared.fault.LedgerFault.{LedgerFault}
-use Rattle.tally.specs.declared.step.Asked.{Asked}
 use Rattle.tally.specs.declared.step.Asked.TheVariants.{Begin, HoldWrites, HoldFrees, Abort}
 use Rattle.tally.specs.declared.step.Change.{Change}
 use Rattle.tally.specs.Faults.{refusal_of}
 use Rattle.tally.specs.Joined.{book_in}
-use Rattle.tally.specs.Parts.{book_of, figures_of, Same, Did, Put}
+use Rattle.tally.specs.Parts.{book_of, figures_of, Did, Put}
 use Rattle.tally.specs.Sound.{Sound}
 use Rattle.tally.specs.Steps.{change_of, as_volume_of}
-use Rattle.tally.proofs.Asks.{and_then, allowed, not-allowed, goes_on, on_begin, begin_steps, estimated, hold_writes_steps, hold_frees_steps, abort_steps, begun, held_writes, held_frees, aborted}
+use Rattle.tally.proofs.Asks.{and_then, allowed, goes_on, on_begin, begin_steps, estimated, hold_writes_steps, hold_frees_steps, abort_steps, begun, held_writes, held_frees, aborted}
 use Rattle.tally.proofs.Checks.{volume_check}
 use Rattle.tally.proofs.Sounds.{sound, rows_are, shaped, still-sound, refused_did, done_did}
 

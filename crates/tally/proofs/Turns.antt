@@ -1,6 +1,6 @@
 -- A turn, dataset by dataset.
-use Rattle.std.proofs.Common.{◌≡◌, ℕ, zero, suc, ◌+◌, ◌-◌, ◌^◌, ◌<◌, ◌≤◌, Bool, true, false, cond, eqb, ltb, ◌≢◌, List, [], ◌∷◌, map, length, get_or, take, set, Ok, Err, sum_by, count_by, Result, sym, refl, ap, ◌∙◌, subst, inl, inr, add-one, arith}
-use Rattle.std.proofs.lemmas.List.{length-set, length-map, get_or_past, get_or-set_same, get_or-set_other, get_or-map, set-get_or, set_past, take_all, ext_get_or}
+use Rattle.std.proofs.Common.{◌≡◌, ℕ, zero, suc, ◌+◌, ◌-◌, ◌<◌, ◌≤◌, Bool, true, false, cond, eqb, ltb, List, [], ◌∷◌, map, length, get_or, take, set, Ok, Err, sum_by, count_by, Result, sym, refl, ap, ◌∙◌, subst, inl, inr, add-one, arith}
+use Rattle.std.proofs.lemmas.List.{length-set, length-map, get_or_past, get_or-set_same, get_or-set_other, get_or-map, set_past, take_all, ext_get_or}
 use Rattle.std.proofs.lemmas.List.Sums.{sum_by-cons, sum_by_more, sum_by-take-le}
 use Rattle.std.proofs.lemmas.Bool.{ltb-true, ltb-false, cases_eq, cases_lt}
 use Rattle.orders.specs.declared.answer.Answer.{Answer}
@@ -11,27 +11,25 @@ use Rattle.charges.specs.Tree.{blank, row, with_own, WithinLimits}
 use Rattle.charges.proofs.Bounds.{bound_law}
 use Rattle.charges.proofs.Falls.{fall_law}
 use Rattle.charges.proofs.Limits.{limit-law}
-use Rattle.rules.specs.declared.state.Kind.{Kind}
-use Rattle.rules.specs.declared.state.Kind.TheVariants.{Folder, Volume}
 use Rattle.rules.specs.declared.state.Contents.{Contents}
 use Rattle.rules.specs.declared.state.Transaction.{Transaction}
 use Rattle.rules.specs.Figures.{Figures, room}
 use Rattle.rules.specs.Book.{Dataset, Book, dataset, made, deferred, all_deferred, own, rows, is_assigned}
-use Rattle.rules.specs.Answers.{refused, first_assigned, to_turn, answer}
-use Rattle.rules.specs.Effects.{settled, holding, with_dataset, with_contents, next}
-use Rattle.rules.specs.Invariant.{ShapedContents, ShapedDataset, Shaped}
+use Rattle.rules.specs.Answers.{first_assigned, answer}
+use Rattle.rules.specs.Effects.{settled, holding, with_contents, next}
+use Rattle.rules.specs.Invariant.{ShapedDataset, Shaped}
 use Rattle.rules.proofs.Edits.{formed, shaped-within, formed-dataset}
-use Rattle.rules.proofs.Rows.{nowhere, rows-length, row-own, rows_at, in_rows, rows-rooted, rows-reserved, rows-own, contents-placed, own-contents, own-elsewhere, made-set, held_by}
+use Rattle.rules.proofs.Rows.{nowhere, rows-length, row-own, in_rows, rows-rooted, rows-reserved, rows-own, contents-placed, own-contents, own-elsewhere, made-set}
 use Rattle.tree.specs.declared.Tree.{Tree}
 use Rattle.tree.specs.declared.fault.TreeFault.{TreeFault}
 use Rattle.tree.specs.declared.fault.TreeFault.TheVariants.{Missing}
-use Rattle.tree.specs.Parts.{rows_of, kinds_of, room_of, Becomes}
+use Rattle.tree.specs.Parts.{rows_of, kinds_of, Becomes}
 use Rattle.tree.specs.Answers.{as_dataset}
 use Rattle.tally.specs.declared.Tally.{Tally}
 use Rattle.tally.specs.declared.fault.LedgerFault.{LedgerFault}
 use Rattle.tally.specs.declared.fault.LedgerFault.TheVariants.{StillAssigned}
 use Rattle.tally.specs.Faults.{refusal_of}
-use Rattle.tally.specs.Joined.{contents_at, datasets_in, book_in}
+use Rattle.tally.specs.Joined.{contents_at, book_in}
 use Rattle.tally.specs.Parts.{book_of, figures_of, Same, Did}
 use Rattle.tally.specs.Sound.{Sound}
 use Rattle.tally.specs.Turns.{turn_or, settled_dataset, settled_at, settled_to, Settled}

@@ -1,5 +1,5 @@
 -- Orders on records: the checks, a free, and a write.
-use Rattle.std.proofs.Common.{◌≡◌, ℕ, ◌+◌, ◌-◌, ◌^◌, ◌<◌, ◌≤◌, Bool, true, false, cond, eqb, ltb, leb, List, length, get_or, set, Ok, Err, Result, sym, refl, ap, ◌∙◌, subst, arith}
+use Rattle.std.proofs.Common.{◌≡◌, ℕ, ◌+◌, ◌-◌, ◌^◌, ◌<◌, ◌≤◌, Bool, true, false, cond, ltb, leb, List, length, get_or, set, Ok, Err, Result, sym, refl, ap, ◌∙◌, arith}
 use Rattle.std.proofs.lemmas.List.{length-set}
 use Rattle.std.proofs.lemmas.Bool.{lt-ltb, le-leb, lt-leb, cond-true, cond-false}
 use Rattle.orders.specs.declared.answer.Answer.{Answer}
@@ -9,27 +9,25 @@ use Rattle.charges.specs.declared.Row.{Row}
 use Rattle.charges.specs.Tree.{row, with_own}
 use Rattle.rules.specs.declared.state.Contents.{Contents}
 use Rattle.rules.specs.declared.state.Transaction.{Transaction}
-use Rattle.rules.specs.declared.state.Transaction.TheVariants.{Idle, Assigned}
-use Rattle.rules.specs.Figures.{Figures}
-use Rattle.rules.specs.Book.{Dataset, Book, dataset, transaction, made, records, units, volume_of, writes_of, frees_of, own, rows}
+use Rattle.rules.specs.declared.state.Transaction.TheVariants.{Assigned}
+use Rattle.rules.specs.Book.{Dataset, dataset, transaction, made, records, units, volume_of, writes_of, frees_of, rows}
 use Rattle.rules.specs.Answers.{refused, answer}
-use Rattle.rules.specs.Effects.{with_units, emptied, holding, with_contents, with_transaction, next}
+use Rattle.rules.specs.Effects.{with_units, emptied, with_contents, with_transaction, next}
 use Rattle.rules.proofs.Accepted.{free_ok, write_ok}
 use Rattle.rules.proofs.Rows.{row-own, rows-free, rows_write}
 use Rattle.rules.proofs.Shapes.{shaped-free, shaped-wrote}
 use Rattle.tree.specs.declared.Tree.{Tree}
 use Rattle.tree.specs.declared.fault.TreeFault.TheVariants.{Missing}
-use Rattle.tree.specs.Parts.{rows_of, kinds_of, room_of, Becomes}
+use Rattle.tree.specs.Parts.{rows_of, kinds_of, Becomes}
 use Rattle.tree.specs.Answers.{as_dataset}
 use Rattle.tally.specs.declared.Tally.{Tally}
 use Rattle.tally.specs.declared.fault.LedgerFault.{LedgerFault}
 use Rattle.tally.specs.declared.fault.LedgerFault.TheVariants.{NoSuchRecord, SizeTooLarge}
-use Rattle.tally.specs.declared.step.Asked.{Asked}
 use Rattle.tally.specs.declared.step.Asked.TheVariants.{Write, Free}
 use Rattle.tally.specs.declared.step.Change.{Change}
 use Rattle.tally.specs.Faults.{refusal_of}
-use Rattle.tally.specs.Joined.{contents_at, datasets_in, book_in}
-use Rattle.tally.specs.Parts.{book_of, figures_of, Did, Writable, Accepts, Wrote}
+use Rattle.tally.specs.Joined.{contents_at, book_in}
+use Rattle.tally.specs.Parts.{book_of, figures_of, Did, Writable, Accepts}
 use Rattle.tally.specs.Sound.{Sound}
 use Rattle.tally.specs.Steps.{record_or, change_of}
 use Rattle.tally.proofs.Asks.{and_then, allowed, goes_on, on_record, write_steps, freed, free_steps, spent_write, spent_free}
@@ -37,7 +35,7 @@ use Rattle.tally.proofs.Bounds.{contents-is, units_long, record-few}
 use Rattle.tally.proofs.Costs.{rows-cost, shaped-cost}
 use Rattle.tally.proofs.Grants.{own-book, volume-made, volume-listed, assigned_busy}
 use Rattle.tally.proofs.Joins.{datasets-contents}
-use Rattle.tally.proofs.Sounds.{sound, made-is, rows_are, shaped, still-sound, refused_did, done_did}
+use Rattle.tally.proofs.Sounds.{sound, made-is, rows_are, shaped, still-sound, refused_did}
 
 record_by : (q : Bool) (f : LedgerFault) (a : Answer) → cond q a (Refused (refusal_of f)) ≡ and_then {X = Unit {0}} (cond q (Ok tt) (Err f)) (λ _. a)
 record_by true f a = refl

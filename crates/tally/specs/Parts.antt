@@ -1,5 +1,5 @@
 -- What a tally is to its callers: its figures and its book; and what a call did.
-use Rattle.std.specs.Prelude.{◌≡◌, ℕ, ◌<◌, set, Ok, Err, Result, slice_set}
+use Rattle.std.specs.Prelude.{◌≡◌, ℕ, ◌<◌, Ok, Err, Result, slice_set}
 use Rattle.orders.specs.declared.answer.Answer.{Answer}
 use Rattle.orders.specs.declared.answer.Answer.TheVariants.{Done, Refused, Told, Stopped}
 use Rattle.orders.specs.Meaning.{Meaning, write}

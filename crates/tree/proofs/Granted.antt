@@ -1,5 +1,5 @@
 -- What the checks of a call establish for the write that follows.
-use Rattle.std.proofs.Common.{◌≡◌, ℕ, ◌+◌, ◌-◌, ◌^◌, ◌<◌, ◌≤◌, length, ℤ, pos, Some, None, sym, ap, ◌∙◌, arith}
+use Rattle.std.proofs.Common.{◌≡◌, ℕ, ◌+◌, ◌^◌, ◌<◌, ◌≤◌, length, ℤ, pos, Some, None, sym, ap, ◌∙◌, arith}
 use Rattle.charges.specs.declared.Row.{Row}
 use Rattle.charges.specs.Amounts.{reweighed}
 use Rattle.charges.specs.Tree.{row, charge, WithinLimits, with_own, with_reservation, raised}

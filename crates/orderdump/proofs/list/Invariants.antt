@@ -1,4 +1,4 @@
-use Rattle.std.proofs.Common.{◌≡◌, ℕ, ◌-◌, ◌≤◌, length}
+use Rattle.std.proofs.Common.{◌≡◌, ◌-◌, length}
 use Rattle.reader.specs.Decode.{place_of, script_of}
 use Rattle.orderdump.proofs.list.Given as goal
 

@@ -1,7 +1,7 @@
-use Rattle.std.proofs.Common.{◌≡◌, ℕ, Bool, List, sym, ap, subst}
+use Rattle.std.proofs.Common.{◌≡◌, ℕ, Bool, List, sym, subst}
 use Rattle.orders.specs.declared.answer.Answer.{Answer}
 use Rattle.orders.specs.declared.order.Order.{Order}
-use Rattle.orders.specs.Meaning.{Meaning, meaning}
+use Rattle.orders.specs.Meaning.{meaning}
 use Rattle.ledger.specs.declared.Ledger.{Ledger}
 use Rattle.ledger.specs.Parts.{Did}
 use Rattle.ledger.proofs.Ledger.carry_out.Goals as goal

@@ -1,4 +1,4 @@
-use Rattle.std.proofs.Common.{◌≡◌, ℕ, false, replicate, sym, refl, ap, ◌∙◌, subst, arith}
+use Rattle.std.proofs.Common.{ℕ, false, replicate, sym, refl, ap, ◌∙◌, subst, arith}
 use Rattle.rules.specs.declared.state.Holder.TheVariants.{Nobody}
 use Rattle.tally.specs.Parts.{Fresh}
 use Rattle.ledger.proofs.Outs.{checked}

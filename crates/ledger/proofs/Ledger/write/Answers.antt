@@ -1,4 +1,4 @@
-use Rattle.std.proofs.Common.{◌≡◌, sym, ap, ◌∙◌, arith}
+use Rattle.std.proofs.Common.{sym, ap, ◌∙◌, arith}
 use Rattle.orders.specs.Meaning.{write}
 use Rattle.rules.specs.Figures.{Figures}
 use Rattle.rules.specs.Answers.{answer}

@@ -1,6 +1,5 @@
-use Rattle.std.proofs.Common.{◌≡◌, ℕ, List, ◌∷◌, ◌++◌, map, length, drop, set, sym, refl, ap, ◌∙◌, subst, arith}
+use Rattle.std.proofs.Common.{◌≡◌, List, ◌++◌, map, length, drop, set, refl, ap, ◌∙◌, subst, arith}
 use lib.Seq.{take-length}
-use Rattle.orders.specs.declared.answer.Answer.{Answer}
 use Rattle.orders.specs.declared.order.Order.{Order}
 use Rattle.orders.specs.Meaning.{meaning}
 use Rattle.rules.specs.Served.{served, answers_of}

@@ -1,4 +1,4 @@
-use Rattle.std.proofs.Common.{◌≡◌, ℕ, length, ap, ◌∙◌, subst, arith}
+use Rattle.std.proofs.Common.{length, ap, ◌∙◌, subst, arith}
 use Rattle.orders.specs.declared.answer.Answer.{Answer}
 use Rattle.orders.specs.Meaning.{meaning}
 use Rattle.orders.specs.Layout.{answer_bytes, laid}

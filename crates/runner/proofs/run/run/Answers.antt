@@ -1,8 +1,6 @@
-use Rattle.std.proofs.Common.{◌≡◌, ℕ, ◌+◌, ◌<◌, ◌≤◌, List, length, Some, None, Ok, Err, Option, sym, refl, ap, ◌∙◌, subst, arith}
+use Rattle.std.proofs.Common.{ℕ, ◌+◌, ◌<◌, ◌≤◌, length, Ok, Option, sym, ◌∙◌, subst, arith}
 use Rattle.orders.specs.declared.order.Order.{Order}
-use Rattle.orders.specs.Meaning.{meaning, name_place}
-use Rattle.ledger.specs.Parts.{book_of, figures}
-use Rattle.reader.specs.Decode.{decode, order, fault, finished, place_of, script_of, ReadOne, Onward}
+use Rattle.reader.specs.Decode.{place_of, script_of, ReadOne}
 use Rattle.runner.proofs.Ones.{short}
 use Rattle.runner.proofs.Running as running
 use Rattle.runner.proofs.run.run.Goals as goal

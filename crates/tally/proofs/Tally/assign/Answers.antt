@@ -1,7 +1,6 @@
-use Rattle.std.proofs.Common.{◌≡◌, ◌*◌, sym, refl, ap, ◌∙◌, arith}
+use Rattle.std.proofs.Common.{◌*◌, sym, refl, ap, ◌∙◌, arith}
 use Rattle.tally.specs.declared.fault.LedgerFault.{LedgerFault}
 use Rattle.tally.specs.Faults.{of}
-use Rattle.tally.specs.Parts.{Same}
 use Rattle.tally.proofs.Sounds.{unmoved, refused_as, done_did}
 use Rattle.tally.proofs.Grants.{assign-few, assign-refused, assign-done, assign-book, assign-sound}
 use Rattle.tally.proofs.Tally.assign.Goals as goal
@@ -24,9 +23,9 @@ invariant_of-self-2 c = record {
   sized = c.args.self.now.sized;
   sound =
       assign-sound c.args.self.now c.args.t c.in_ok-change.change (sym c.in_ok-change.ensures)
-        c.volume_of.result c.estimate-units.result c.volume_of.ensures
-        (c.estimate-units.ensures ∙ ap (λ w. w * c.args.self.now.worst) c.writes_of.ensures)
-        (sym c.in_default.ensures.answer) c.raise.new.self c.in_default.ensures.after;
+      c.volume_of.result c.estimate-units.result c.volume_of.ensures
+      (c.estimate-units.ensures ∙ ap (λ w. w * c.args.self.now.worst) c.writes_of.ensures)
+      (sym c.in_default.ensures.answer) c.raise.new.self c.in_default.ensures.after;
 }
 
 pub returns : goal.returns

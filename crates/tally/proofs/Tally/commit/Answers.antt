@@ -1,4 +1,4 @@
-use Rattle.std.proofs.Common.{◌≡◌, ℕ, ◌*◌, sym, refl, ap, ◌∙◌, arith}
+use Rattle.std.proofs.Common.{◌*◌, sym, refl, ap, ◌∙◌, arith}
 use Rattle.tally.proofs.Asks.{ok_not_err}
 use Rattle.tally.proofs.Sounds.{done_did}
 use Rattle.tally.proofs.Grants.{commit-few, commit_lowers, commit-done, commit-book, commit-sound}
@@ -22,9 +22,9 @@ invariant_of-self-2 c = record {
   sized = c.args.self.now.sized;
   sound =
       commit-sound c.args.self.now c.args.t c.in_ok-change.change (sym c.in_ok-change.ensures)
-        c.volume_of.result c.estimate-units.result c.volume_of.ensures
-        (c.estimate-units.ensures ∙ ap (λ w. w * c.args.self.now.worst) c.writes_of.ensures)
-        c.lower.new.self c.in_default.ensures.after;
+      c.volume_of.result c.estimate-units.result c.volume_of.ensures
+      (c.estimate-units.ensures ∙ ap (λ w. w * c.args.self.now.worst) c.writes_of.ensures)
+      c.lower.new.self c.in_default.ensures.after;
 }
 
 pub returns : goal.returns

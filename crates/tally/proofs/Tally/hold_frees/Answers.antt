@@ -1,5 +1,4 @@
-use Rattle.std.proofs.Common.{sym, ap, arith}
-use Rattle.rules.specs.Book.{writes_of}
+use Rattle.std.proofs.Common.{sym, arith}
 use Rattle.tally.specs.declared.step.Asked.TheVariants.{HoldFrees}
 use Rattle.tally.proofs.Asks.{allowed}
 use Rattle.tally.proofs.Transacts.{frees_few, frees_sound}

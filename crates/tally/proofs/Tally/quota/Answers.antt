@@ -9,7 +9,7 @@ invariant_of-self c = record {
   sized = c.args.self.now.sized;
   sound =
       quota-still c.args.self.now c.args.d c.args.units c.set_quota.new.self c.set_quota.result c.set_quota.ensures.answer
-        c.set_quota.ensures.after (omega arith);
+      c.set_quota.ensures.after (omega arith);
 }
 
 pub returns-in_err-charge : goal.returns-in_err-charge

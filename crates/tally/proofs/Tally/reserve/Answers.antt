@@ -9,7 +9,7 @@ invariant_of-self c = record {
   sized = c.args.self.now.sized;
   sound =
       reserve-still c.args.self.now c.args.d c.args.units c.set_reservation.new.self c.set_reservation.result c.set_reservation.ensures.answer
-        c.set_reservation.ensures.after (omega arith);
+      c.set_reservation.ensures.after (omega arith);
 }
 
 pub returns-in_err-weight : goal.returns-in_err-weight

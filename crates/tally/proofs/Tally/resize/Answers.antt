@@ -1,7 +1,7 @@
-use Rattle.std.proofs.Common.{sym, refl, ap, ◌∙◌, arith}
+use Rattle.std.proofs.Common.{sym, refl}
 use Rattle.std.proofs.lemmas.Result.{err_from_is_err_and}
 use Rattle.tally.proofs.Sounds.{refused_as, done_did}
-use Rattle.tally.proofs.Cuts.{resize_no_volume, resize-wrong-count, resize_table, resize-few, resize-shaped, resize-fits, resize-old, resize-done, resize-book, resize-sound}
+use Rattle.tally.proofs.Cuts.{resize_no_volume, resize-wrong-count, resize-few, resize-shaped, resize-fits, resize-old, resize-done, resize-book, resize-sound}
 use Rattle.tally.proofs.Tally.resize.Goals as goal
 
 pub returns-in_err-volume : goal.returns-in_err-volume

@@ -1,4 +1,4 @@
-use Rattle.std.proofs.Common.{◌≡◌, sym, refl, ap, ◌∙◌}
+use Rattle.std.proofs.Common.{sym, refl, ap, ◌∙◌}
 use Rattle.tree.specs.declared.Tree.{Tree}
 use Rattle.tally.specs.Joined.{book_in}
 use Rattle.tally.specs.Parts.{book_of}
@@ -21,7 +21,7 @@ invariant_of-self-2 c = record {
   sized = c.args.self.now.sized;
   sound =
       settle-sound c.args.self.now c.args.d (there-listed c.args.self.now c.args.d (sym c.in_default.ensures.answer)) _ refl
-        c.lower.new.self c.in_default.ensures.after _ refl;
+      c.lower.new.self c.in_default.ensures.after _ refl;
 }
 
 pub returns : goal.returns

@@ -1,4 +1,4 @@
-use Rattle.std.proofs.Common.{sym, refl, arith}
+use Rattle.std.proofs.Common.{sym, arith}
 use Rattle.std.proofs.lemmas.Result.{err_from_is_err_and}
 use Rattle.tally.proofs.Sounds.{refused_as}
 use Rattle.tally.proofs.Tells.{tell-refused, told_units, told_grants, told_few, tell_told}

@@ -1,4 +1,4 @@
-use Rattle.std.proofs.Common.{sym, refl, ap, ◌∙◌, arith}
+use Rattle.std.proofs.Common.{sym}
 use Rattle.std.proofs.lemmas.Result.{err_from_is_err_and}
 use Rattle.tally.proofs.Writes.{write_table, write_no_record, write_too_large, write_accepts}
 use Rattle.tally.proofs.Tally.to_write.Goals as goal

@@ -1,4 +1,4 @@
-use Rattle.std.proofs.Common.{◌≡◌, sym, refl, ap, ◌∙◌, arith}
+use Rattle.std.proofs.Common.{sym, arith}
 use Rattle.tally.proofs.Turns.{turning_starts, turning_on, turning-fits, turn_did}
 use Rattle.tally.proofs.Tally.turn.Goals as goal
 

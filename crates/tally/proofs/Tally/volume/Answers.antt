@@ -18,7 +18,7 @@ invariant_of-self-2 c = record {
   sized = c.args.self.now.sized;
   sound =
       volume-sound c.args.self.now c.args.parent c.args.records c.args.name c.in_ok-d.d (sym c.in_ok-d.ensures.answer)
-        c.add_volume.new.self c.in_ok-d.ensures.after c.empty.result c.empty.ensures (omega arith);
+      c.add_volume.new.self c.in_ok-d.ensures.after c.empty.result c.empty.ensures (omega arith);
 }
 
 pub returns : goal.returns

@@ -1,4 +1,4 @@
-use Rattle.std.proofs.Common.{◌≡◌, ℕ, ◌+◌, sym, refl, ap, ◌∙◌, subst, arith}
+use Rattle.std.proofs.Common.{ℕ, ◌+◌, sym, subst, arith}
 use Rattle.rules.specs.declared.state.Contents.{Contents}
 use Rattle.rules.specs.Effects.{emptied}
 use Rattle.tally.proofs.Cuts.{Cutting, cutting_starts, cutting_inside, cutting_fits, cutting_adds, cutting_on, cut_resized, cut_units}

@@ -1,9 +1,6 @@
-use Rattle.std.proofs.Common.{sym, ap, ◌∙◌, arith, w32, SFits, to_z, of_z, rules}
+use Rattle.std.proofs.Common.{sym, ap, ◌∙◌, arith, w32, SFits, rules}
 use Rattle.std.proofs.lemmas.Int.{to_z-of_z}
 use Rattle.charges.specs.declared.Row.{Row}
-use Rattle.charges.specs.Amounts.{reweighed}
-use Rattle.charges.specs.Tree.{row}
-use Rattle.charges.specs.Walk.{walk}
 use Rattle.tree.specs.Answers.{judged}
 use Rattle.tree.proofs.Granted.{weighs, parent-inside, reserve-fits, same-walk}
 use Rattle.tree.proofs.Tree.judge_reservation.Goals as goal

@@ -1,8 +1,7 @@
 -- The change that is put in brings the kept charges to the edited rows.
-use Rattle.std.proofs.Common.{ℤ, pos, ◌-ℤ◌, refl, ap, ◌∙◌, w32, SFits, to_z, of_z, rules}
+use Rattle.std.proofs.Common.{pos, ◌-ℤ◌, refl, ap, ◌∙◌, w32, SFits, rules}
 use Rattle.std.proofs.lemmas.Int.{to_z-of_z}
 use Rattle.charges.specs.declared.Row.{Row}
-use Rattle.charges.specs.Tree.{row}
 use Rattle.tree.proofs.Ghosts.{own-fits, own-ghosts, edited-rows, edited_kinds, put_own}
 use Rattle.tree.proofs.Tree.put_own.Goals as goal
 
