@@ -158,7 +158,7 @@ fn the_worked_run_has_nine_orders(rt: HostRuntime) -> Result<(), Fail> {
             _ => return Err(Fail::new("no order")),
         }
     }
-    assert!(rt; again.as_slice() == WORKED_RUN);
+    assert!(rt; again.as_slice() == WORKED_RUN.as_slice());
     match reader.next_order() {
         Ok(None) => {
             assert!(rt; reader.place() == 50);
