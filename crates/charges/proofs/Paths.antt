@@ -1,6 +1,6 @@
 -- The path from a dataset to the root: it goes down in number, no two of it have one parent, and its list says the same as its steps.
 use Rattle.std.proofs.Common.{◌≡◌, ℕ, zero, suc, ◌<◌, ◌≤◌, ◌≢◌, ◌⊎◌, List, [], ◌∷◌, length, sym, refl, ap, inl, inr, le_refl, arith}
-use Rattle.std.specs.List.{ContainsAt as Has, AllByRecursion as All}
+use Rattle.std.specs.List.{ContainsAt as Has, AllByRecursion}
 use Rattle.std.proofs.lemmas.Bool.{cases_eq, cases_lt}
 use Rattle.charges.specs.declared.Row.{Row}
 use Rattle.charges.specs.Tree.{row, Rooted, climb, path, OnPath}
@@ -115,7 +115,7 @@ has_cases d e ds (suc k, l, at) = inr (k, omega arith, at)
 has_none : {X : Type 0} (e : X) → Has [] e → ⊥
 has_none e (k, l, at) = omega arith
 
-pub all_from_has : {X : Type 0} (P : X → Type 0) (ds : List X) → ((d : X) → Has ds d → P d) → All P ds
+pub all_from_has : {X : Type 0} (P : X → Type 0) (ds : List X) → ((d : X) → Has ds d → P d) → AllByRecursion P ds
 all_from_has P [] each = tt
 all_from_has P (d ∷ ds) each = (each d (has_first d ds), all_from_has P ds (λ e has. each e (has_rest d e ds has)))
 

@@ -3,7 +3,7 @@ use Rattle.std.proofs.Common.{◌≡◌, ℕ, zero, suc, ◌+◌, ◌<◌, ◌�
 use Rattle.std.proofs.ByRecursion.{all-has}
 use Rattle.std.proofs.lemmas.Int.{ints, clamps}
 use Rattle.std.proofs.lemmas.Bool.{cases_eq}
-use Rattle.std.specs.List.{AllByRecursion as All}
+use Rattle.std.specs.List.{AllByRecursion}
 use Rattle.charges.specs.declared.Row.{Row}
 use Rattle.charges.specs.Amounts.{limit_of, excess, passed, reweighed, changed}
 use Rattle.charges.specs.Tree.{row, Rooted, charge, limit, Within, WithinLimits, climb, path, with_own, with_reservation, raised}
@@ -79,17 +79,17 @@ recomputed = record {
 
 -- what the search along a list answers
 module _ (room : ℕ) (rows : List Row) where
-  first-within : (ds : List ℕ) → first_past room rows ds ≡ None → All (Within room rows) ds
+  first-within : (ds : List ℕ) → first_past room rows ds ≡ None → AllByRecursion (Within room rows) ds
   unfolding first_past
   first-within [] e = tt
   first-within (d ∷ ds) e = go (excess (limit room rows d) (charge rows d)) refl e (first-within ds)
     where
       go : (s : ℕ) → excess (limit room rows d) (charge rows d) ≡ s → or_else d s (first_past room rows ds) ≡ None →
-          (first_past room rows ds ≡ None → All (Within room rows) ds) → Within room rows d × All (Within room rows) ds
+          (first_past room rows ds ≡ None → AllByRecursion (Within room rows) ds) → Within room rows d × AllByRecursion (Within room rows) ds
       go zero is e rest = (is, rest e)
       go (suc s) is e rest = let z : ◌≡◌ {A = ℕ} 0 1 = cc in absurd (omega arith)
 
-  within_first : (ds : List ℕ) → All (Within room rows) ds → first_past room rows ds ≡ None
+  within_first : (ds : List ℕ) → AllByRecursion (Within room rows) ds → first_past room rows ds ≡ None
   unfolding first_past
   within_first [] all = refl
   within_first (d ∷ ds) all = ap (λ s. or_else d s (first_past room rows ds)) all.0 ∙ within_first ds all.1
@@ -110,7 +110,7 @@ module _ (room : ℕ) (rows : List Row) where
           let same_s : suc x ≡ s = ap (λ (p : ℕ × ℕ). p.1) same in
           record { before = []; above = ds; order = ap (λ k. k ∷ ds) same-d; all_within = tt; passes = omega arith; exact = rw (← same-d, ← same_s) is }
 
-  split_first : (before above : List ℕ) (d s : ℕ) → All (Within room rows) before → 0 < s → excess (limit room rows d) (charge rows d) ≡ s →
+  split_first : (before above : List ℕ) (d s : ℕ) → AllByRecursion (Within room rows) before → 0 < s → excess (limit room rows d) (charge rows d) ≡ s →
       first_past room rows (before ++ d ∷ above) ≡ Some (d, s)
   unfolding first_past
   split_first [] above d zero all gt exact = absurd (omega arith)

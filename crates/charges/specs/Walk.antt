@@ -1,6 +1,6 @@
 -- The walk from a dataset to the root by changes, and the same question put to charges computed from nothing.
 use Rattle.std.specs.Prelude.{◌≡◌, ℕ, zero, suc, ◌<◌, List, [], ◌∷◌, ◌++◌, ℤ, Some, None, Option}
-use Rattle.std.specs.List.{AllByRecursion as All}
+use Rattle.std.specs.List.{AllByRecursion}
 use Rattle.charges.specs.declared.Row.{Row}
 use Rattle.charges.specs.Amounts.{excess, passed, changed}
 use Rattle.charges.specs.Tree.{row, charge, limit, Within, path}
@@ -31,6 +31,6 @@ pub record Nearest (room : ℕ) (rows : List Row) (ds : List ℕ) (d s : ℕ) : 
   pub before : List ℕ
   pub above : List ℕ
   pub order : ds ≡ before ++ d ∷ above
-  pub all_within : All (Within room rows) before
+  pub all_within : AllByRecursion (Within room rows) before
   pub passes : 0 < s
   pub exact : excess (limit room rows d) (charge rows d) ≡ s

@@ -2,7 +2,7 @@
 use Rattle.std.proofs.Common.{◌≡◌, ℕ, zero, suc, ◌^◌, ◌<◌, min, eqb, ◌≢◌, List, [], ◌∷◌, length, get_or, take, set, ℤ, Some, None, sym, refl, ap, ◌∙◌, subst, inl, inr, arith}
 use Rattle.std.proofs.lemmas.List.{length-set, get_or-set_same, get_or-set_other, get_or-take, length-take}
 use Rattle.std.proofs.lemmas.Bool.{cases_lt, eq-eqb, ne_eqb, cond-true, cond-false}
-use Rattle.std.specs.List.{AllByRecursion as All}
+use Rattle.std.specs.List.{AllByRecursion}
 use Rattle.charges.specs.declared.Row.{Row}
 use Rattle.charges.specs.Amounts.{passed, changed}
 use Rattle.charges.specs.Tree.{blank, row, Rooted, path}
@@ -46,13 +46,13 @@ stops d r x c e = elim (cases_lt 0 d) [
 ]
 
 -- a spread leaves what is not on its path
-spread-off : (rows : List Row) (ds : List ℕ) (c : ℤ) (kept : List ℕ) (k : ℕ) → All (λ e. e ≢ k) ds → get_or (spread rows ds c kept) k 0 ≡ get_or kept k 0
+spread-off : (rows : List Row) (ds : List ℕ) (c : ℤ) (kept : List ℕ) (k : ℕ) → AllByRecursion (λ e. e ≢ k) ds → get_or (spread rows ds c kept) k 0 ≡ get_or kept k 0
 unfolding spread
 spread-off rows [] c kept k all = refl
 spread-off rows (d ∷ ds) c kept k all = spread-off rows ds _ _ k all.1 ∙ get_or-set_other kept d k _ 0 (λ e. all.0 (sym e))
 
 -- the datasets above d all have smaller numbers
-above_less : (rows : List Row) → Rooted rows → (d : ℕ) → 0 < d → d < length rows → All (λ e. e ≢ d) (path rows (row rows d).parent)
+above_less : (rows : List Row) → Rooted rows → (d : ℕ) → 0 < d → d < length rows → AllByRecursion (λ e. e ≢ d) (path rows (row rows d).parent)
 above_less rows rooted d gt l =
     let below : (row rows d).parent < d = rooted d gt l in
     all_from_has (λ e. e ≢ d) (path rows (row rows d).parent)
