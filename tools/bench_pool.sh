@@ -5,7 +5,8 @@
 set -eu
 cd "$(dirname "$0")/.."
 rounds=${1:-2000000}
-[ -x target/bin/poolbench ] || rt check poolbench > /dev/null
+program=crates/poolbench/out/poolbench
+[ -x "$program" ] || (cd crates/poolbench && rt run < stdin > /dev/null)
 
 # the best of five runs of a case, in nanoseconds
 best() {
@@ -13,7 +14,7 @@ best() {
     for _ in 1 2 3 4 5; do
         local from to
         from=$(date +%s%N)
-        echo "$1" | target/bin/poolbench > /dev/null
+        echo "$1" | "$program" > /dev/null
         to=$(date +%s%N)
         if [ -z "$least" ] || [ $((to - from)) -lt "$least" ]; then
             least=$((to - from))
