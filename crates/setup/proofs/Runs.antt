@@ -21,10 +21,10 @@ use Rattle.setup.specs.declared.scheme.Scheme.TheVariants.{Copies, Parity}
 use Rattle.setup.specs.Schemes.{plan}
 use Rattle.setup.specs.Setups.{RunWith, Ran}
 
-get_d_replicate-false : (n k : ℕ) → get_or (replicate n false) k false ≡ false
-get_d_replicate-false zero k = refl
-get_d_replicate-false (suc n) zero = refl
-get_d_replicate-false (suc n) (suc k) = get_d_replicate-false n k
+get_or-replicate_false : (n k : ℕ) → get_or (replicate n false) k false ≡ false
+get_or-replicate_false zero k = refl
+get_or-replicate_false (suc n) zero = refl
+get_or-replicate_false (suc n) (suc k) = get_or-replicate_false n k
 
 module _ {A P Lent : Type 0} (U : A → List Bool) (W : A → Type 0) (L : A → Lent) (C : P → ℕ → ℕ) (X : P → ℕ) where
   pub run_with : (l₁ l : Ledger A P) (pool : A) (policy : P) (slop : ℕ) (s out after : List ℕ) (e : Ended) → Made U pool policy slop l₁ → Stands U C X (figures C X l₁) l₁ [] →
@@ -68,7 +68,7 @@ planned-run F G s out after us e same r = subst (λ (H : Figures). RunWith H s o
 -- a ledger can be made over a new allocator
 pub checks : (slop n : ℕ) (us : List Bool) → us ≡ replicate n false → slop < n → check_answer slop us ≡ Ok tt
 checks slop n us e below =
-    let none : any_out us ≡ false = none_out us (λ k h. ap (λ (x : List Bool). get_or x k false) e ∙ get_d_replicate-false n k) in
+    let none : any_out us ≡ false = none_out us (λ k h. ap (λ (x : List Bool). get_or x k false) e ∙ get_or-replicate_false n k) in
     let long : length us ≡ n = ap length e ∙ length-replicate n false in
     cond-true _ _ _ (lt-ltb slop (length us) (omega arith)) ∙ cond-false _ _ _ none
 
