@@ -11,7 +11,7 @@ mod tests {
     use orders::order::{Name, Order};
     use pool::allocator::Allocator;
     use pool::bitmap::Bitmap;
-    use setup::calls::{run_on_bitmap, run_on_nested};
+    use setup::calls::{run_on_bitmap, run_on_chain, run_on_joined, run_on_nested};
     use setup::scheme::Scheme;
     use std::test::Fail;
 
@@ -198,5 +198,83 @@ mod tests {
                 Ok(())
             },
         }
+    }
+
+    // A volume of two records, one write held and assigned, and five sectors written to record 1.
+    const ONE_WRITE: &[u8; 23] =
+        b"\x02\x00\x02ONEWRITE\x10\x00\x01\x11\x00\x01\x13\x00\x15\x00\x01\x05";
+
+    // The units of a run are those of the bitmap that was lent: the lowest five are out, and bits past the units are kept.
+    #[test]
+    fn bitmap_after_a_run(rt: HostRuntime) -> Result<(), Fail> {
+        let mut memory = [0xaau8; 14];
+        let mut answers = [0u8; 36];
+        match run_on_bitmap(
+            &mut memory,
+            100,
+            4,
+            Scheme::Copies { n: 1 },
+            ONE_WRITE,
+            &mut answers,
+        ) {
+            Ok(ended) => assert_eq!(rt; ended.answered, 5),
+            Err(_) => return Err(Fail::new("a bitmap of 100 units")),
+        }
+        assert_eq!(rt; memory, [0x1f, 0, 0, 0, 0, 0, 0, 0, 0, 0, 0, 0, 0xa0, 0xaa]);
+        Ok(())
+    }
+
+    // The same of a chain: its first five entries are out, the next leads on, and entries past the units are kept.
+    #[test]
+    fn chain_after_a_run(rt: HostRuntime) -> Result<(), Fail> {
+        let mut links = [7u16; 22];
+        let mut answers = [0u8; 36];
+        match run_on_chain(
+            &mut links,
+            20,
+            4,
+            Scheme::Copies { n: 1 },
+            ONE_WRITE,
+            &mut answers,
+        ) {
+            Ok(ended) => assert_eq!(rt; ended.answered, 5),
+            Err(_) => return Err(Fail::new("a chain of 20 units")),
+        }
+        assert_eq!(rt;
+            links,
+            [
+                65535, 65535, 65535, 65535, 65535, 6, 7, 8, 9, 10, 11, 12, 13, 14, 15, 16, 17, 18,
+                19, 20, 7, 7
+            ]
+        );
+        Ok(())
+    }
+
+    // The same of a pair: its first part is out, and one unit of its second.
+    #[test]
+    fn pair_after_a_run(rt: HostRuntime) -> Result<(), Fail> {
+        let mut memory = [0xaau8; 2];
+        let mut links = [7u16; 18];
+        let mut answers = [0u8; 36];
+        match run_on_joined(
+            &mut memory,
+            &mut links,
+            [4, 16],
+            4,
+            Scheme::Copies { n: 1 },
+            ONE_WRITE,
+            &mut answers,
+        ) {
+            Ok(ended) => assert_eq!(rt; ended.answered, 5),
+            Err(_) => return Err(Fail::new("a pair of 20 units")),
+        }
+        assert_eq!(rt; memory, [0xaf, 0xaa]);
+        assert_eq!(rt;
+            links,
+            [
+                65535, 2, 3, 4, 5, 6, 7, 8, 9, 10, 11, 12, 13, 14, 15, 16, 7, 7
+            ]
+        );
+        Ok(())
     }
 }
