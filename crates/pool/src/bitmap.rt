@@ -127,44 +127,6 @@ impl<'a> Bitmap<'a> {
         let unit = 8 * i as u16 + lowest_clear(self.memory[i]);
         if unit < self.size { Some(unit) } else { None }
     }
-
-    /// Takes the lowest unit that is in. Refuses where every unit is out.
-    /// It turns that unit's bit, and keeps the rest of the memory.
-    pub fn take(&mut self) -> Result<u16, AllocatorFault>
-        requires { Mapped self.old.memory.now self.old.size self.old.hint }
-        ensures keeps { Mapped self.new.memory.now self.new.size self.new.hint }
-        ensures took { Took (marks self.old.memory.now self.old.size) (marks self.new.memory.now self.new.size) result }
-        ensures kept { Kept self.old self.new result }
-        ensures holds { TookLowest self.old.memory.now self.new.memory.now result }
-        ensures lent { beside_bits self.new.memory.ghost_name self.new.memory.now self.new.size ≡ beside_bits self.old.memory.ghost_name self.old.memory.now self.old.size }
-        ensures named { self.new.memory.ghost_name ≡ self.old.memory.ghost_name }
-    {
-        let Some(unit) = self.first_in() else {
-            return Err(AllocatorFault::AllOut);
-        };
-        turn(self.memory, unit as usize);
-        self.hint = unit + 1;
-        Ok(unit)
-    }
-
-    /// Brings a unit back that is out. Refuses where it is not out.
-    /// It turns that unit's bit, and keeps the rest of the memory.
-    pub fn give(&mut self, unit: u16) -> Result<(), AllocatorFault>
-        requires { Mapped self.old.memory.now self.old.size self.old.hint }
-        ensures keeps { Mapped self.new.memory.now self.new.size self.new.hint }
-        ensures gave { Gave (marks self.old.memory.now self.old.size) (marks self.new.memory.now self.new.size) unit result }
-        ensures kept { Kept self.old self.new result }
-        ensures holds { GaveBit self.old.memory.now self.new.memory.now unit result }
-        ensures lent { beside_bits self.new.memory.ghost_name self.new.memory.now self.new.size ≡ beside_bits self.old.memory.ghost_name self.old.memory.now self.old.size }
-        ensures named { self.new.memory.ghost_name ≡ self.old.memory.ghost_name }
-    {
-        if !self.is_out(unit) {
-            return Err(AllocatorFault::NotOut { unit });
-        }
-        turn(self.memory, unit as usize);
-        self.hint = lower(self.hint, unit);
-        Ok(())
-    }
 }
 
 impl Allocator for Bitmap<'_> {
@@ -184,11 +146,41 @@ impl Allocator for Bitmap<'_> {
         unit < self.size && bit(self.memory, unit as usize)
     }
 
-    fn take(&mut self) -> Result<u16, AllocatorFault> {
-        Bitmap::take(self)
+    /// Takes the lowest unit that is in. Refuses where every unit is out.
+    /// It turns that unit's bit, and keeps the rest of the memory.
+    fn take(&mut self) -> Result<u16, AllocatorFault>
+        requires { Mapped self.old.memory.now self.old.size self.old.hint }
+        ensures keeps { Mapped self.new.memory.now self.new.size self.new.hint }
+        ensures took { Took (marks self.old.memory.now self.old.size) (marks self.new.memory.now self.new.size) result }
+        ensures kept { Kept self.old self.new result }
+        ensures holds { TookLowest self.old.memory.now self.new.memory.now result }
+        ensures lent { beside_bits self.new.memory.ghost_name self.new.memory.now self.new.size ≡ beside_bits self.old.memory.ghost_name self.old.memory.now self.old.size }
+        ensures named { self.new.memory.ghost_name ≡ self.old.memory.ghost_name }
+    {
+        let Some(unit) = self.first_in() else {
+            return Err(AllocatorFault::AllOut);
+        };
+        turn(self.memory, unit as usize);
+        self.hint = unit + 1;
+        Ok(unit)
     }
 
-    fn give(&mut self, unit: u16) -> Result<(), AllocatorFault> {
-        Bitmap::give(self, unit)
+    /// Brings a unit back that is out. Refuses where it is not out.
+    /// It turns that unit's bit, and keeps the rest of the memory.
+    fn give(&mut self, unit: u16) -> Result<(), AllocatorFault>
+        requires { Mapped self.old.memory.now self.old.size self.old.hint }
+        ensures keeps { Mapped self.new.memory.now self.new.size self.new.hint }
+        ensures gave { Gave (marks self.old.memory.now self.old.size) (marks self.new.memory.now self.new.size) unit result }
+        ensures kept { Kept self.old self.new result }
+        ensures holds { GaveBit self.old.memory.now self.new.memory.now unit result }
+        ensures lent { beside_bits self.new.memory.ghost_name self.new.memory.now self.new.size ≡ beside_bits self.old.memory.ghost_name self.old.memory.now self.old.size }
+        ensures named { self.new.memory.ghost_name ≡ self.old.memory.ghost_name }
+    {
+        if !self.is_out(unit) {
+            return Err(AllocatorFault::NotOut { unit });
+        }
+        turn(self.memory, unit as usize);
+        self.hint = lower(self.hint, unit);
+        Ok(())
     }
 }

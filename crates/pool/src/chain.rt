@@ -63,45 +63,6 @@ impl<'a> Chain<'a> {
     {
         self.links[usize::from(unit)]
     }
-
-    /// Takes the unit at the head of the chain. Refuses where every unit is out.
-    /// It writes that unit's entry, and keeps the rest of the memory.
-    pub fn take(&mut self) -> Result<u16, AllocatorFault>
-        requires { Linked self.old.links.now self.old.size self.old.head }
-        ensures keeps { Linked self.new.links.now self.new.size self.new.head }
-        ensures took { Took (taken self.old.links.now self.old.size) (taken self.new.links.now self.new.size) result }
-        ensures kept { Kept self.old self.new result }
-        ensures holds { TookHead self.old.links.now self.new.links.now self.old.head self.new.head result }
-        ensures lent { beside_links self.new.links.ghost_name self.new.links.now self.new.size ≡ beside_links self.old.links.ghost_name self.old.links.now self.old.size }
-        ensures named { self.new.links.ghost_name ≡ self.old.links.ghost_name }
-    {
-        let unit = self.head;
-        if unit == self.size {
-            return Err(AllocatorFault::AllOut);
-        }
-        self.head = self.entry(unit);
-        self.links[unit as usize] = OUT;
-        Ok(unit)
-    }
-
-    /// Brings a unit back that is out, to the head of the chain. Refuses where it is not out.
-    /// It writes that unit's entry, and keeps the rest of the memory.
-    pub fn give(&mut self, unit: u16) -> Result<(), AllocatorFault>
-        requires { Linked self.old.links.now self.old.size self.old.head }
-        ensures keeps { Linked self.new.links.now self.new.size self.new.head }
-        ensures gave { Gave (taken self.old.links.now self.old.size) (taken self.new.links.now self.new.size) unit result }
-        ensures kept { Kept self.old self.new result }
-        ensures holds { GaveHead self.old.links.now self.new.links.now self.old.head self.new.head unit result }
-        ensures lent { beside_links self.new.links.ghost_name self.new.links.now self.new.size ≡ beside_links self.old.links.ghost_name self.old.links.now self.old.size }
-        ensures named { self.new.links.ghost_name ≡ self.old.links.ghost_name }
-    {
-        if !self.is_out(unit) {
-            return Err(AllocatorFault::NotOut { unit });
-        }
-        self.links[unit as usize] = self.head;
-        self.head = unit;
-        Ok(())
-    }
 }
 
 impl Allocator for Chain<'_> {
@@ -121,11 +82,42 @@ impl Allocator for Chain<'_> {
         unit < self.size && self.links[unit as usize] == OUT
     }
 
-    fn take(&mut self) -> Result<u16, AllocatorFault> {
-        Chain::take(self)
+    /// Takes the unit at the head of the chain. Refuses where every unit is out.
+    /// It writes that unit's entry, and keeps the rest of the memory.
+    fn take(&mut self) -> Result<u16, AllocatorFault>
+        requires { Linked self.old.links.now self.old.size self.old.head }
+        ensures keeps { Linked self.new.links.now self.new.size self.new.head }
+        ensures took { Took (taken self.old.links.now self.old.size) (taken self.new.links.now self.new.size) result }
+        ensures kept { Kept self.old self.new result }
+        ensures holds { TookHead self.old.links.now self.new.links.now self.old.head self.new.head result }
+        ensures lent { beside_links self.new.links.ghost_name self.new.links.now self.new.size ≡ beside_links self.old.links.ghost_name self.old.links.now self.old.size }
+        ensures named { self.new.links.ghost_name ≡ self.old.links.ghost_name }
+    {
+        let unit = self.head;
+        if unit == self.size {
+            return Err(AllocatorFault::AllOut);
+        }
+        self.head = self.entry(unit);
+        self.links[unit as usize] = OUT;
+        Ok(unit)
     }
 
-    fn give(&mut self, unit: u16) -> Result<(), AllocatorFault> {
-        Chain::give(self, unit)
+    /// Brings a unit back that is out, to the head of the chain. Refuses where it is not out.
+    /// It writes that unit's entry, and keeps the rest of the memory.
+    fn give(&mut self, unit: u16) -> Result<(), AllocatorFault>
+        requires { Linked self.old.links.now self.old.size self.old.head }
+        ensures keeps { Linked self.new.links.now self.new.size self.new.head }
+        ensures gave { Gave (taken self.old.links.now self.old.size) (taken self.new.links.now self.new.size) unit result }
+        ensures kept { Kept self.old self.new result }
+        ensures holds { GaveHead self.old.links.now self.new.links.now self.old.head self.new.head unit result }
+        ensures lent { beside_links self.new.links.ghost_name self.new.links.now self.new.size ≡ beside_links self.old.links.ghost_name self.old.links.now self.old.size }
+        ensures named { self.new.links.ghost_name ≡ self.old.links.ghost_name }
+    {
+        if !self.is_out(unit) {
+            return Err(AllocatorFault::NotOut { unit });
+        }
+        self.links[unit as usize] = self.head;
+        self.head = unit;
+        Ok(())
     }
 }

@@ -1,6 +1,6 @@
 use Rattle.std.proofs.Common.{refl, rules}
 use Rattle.pool.proofs.Turns.{marks-all, bit_out, beside-turned}
-use Rattle.pool.proofs.bitmap.Bitmap.take.Goals as goal
+use Rattle.pool.proofs.bitmap.BitmapAllocator.take.Goals as goal
 
 pub returns : goal.returns
 returns c =

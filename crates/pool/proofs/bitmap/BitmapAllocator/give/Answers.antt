@@ -1,6 +1,6 @@
 use Rattle.std.proofs.Common.{◌<◌, sym, refl, arith}
 use Rattle.pool.proofs.Turns.{out_below, bit_in, beside-turned}
-use Rattle.pool.proofs.bitmap.Bitmap.give.Goals as goal
+use Rattle.pool.proofs.bitmap.BitmapAllocator.give.Goals as goal
 
 pub turn-requires : goal.turn-requires
 turn-requires c =

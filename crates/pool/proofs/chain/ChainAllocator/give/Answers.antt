@@ -1,6 +1,6 @@
 use Rattle.std.proofs.Common.{◌<◌, sym, refl, arith}
 use Rattle.pool.proofs.Chains.{out_under, given_linked, gave_back, beside-set}
-use Rattle.pool.proofs.chain.Chain.give.Goals as goal
+use Rattle.pool.proofs.chain.ChainAllocator.give.Goals as goal
 
 pub bounds-self-unit : goal.bounds-self-unit
 bounds-self-unit c = let h : c.args.unit < c.args.self.now.size = (out_under _ _ _ (sym c.if-not-is_out.ensures)).0 in omega (arith, c.requires.space.2)

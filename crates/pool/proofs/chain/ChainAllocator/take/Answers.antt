@@ -1,7 +1,7 @@
 use Rattle.std.proofs.Common.{ℕ, set, sym, refl, subst, arith}
 use Rattle.pool.specs.Links.{Linked}
 use Rattle.pool.proofs.Chains.{all-taken, head_below, taken-linked, took_head, beside-set}
-use Rattle.pool.proofs.chain.Chain.take.Goals as goal
+use Rattle.pool.proofs.chain.ChainAllocator.take.Goals as goal
 
 pub returns-then-unit-self : goal.returns-then-unit-self
 returns-then-unit-self c = record { keeps = c.requires; took = (refl, all-taken _ _ _ c.requires c.if-unit-self.true, refl); kept = refl; holds = (refl, refl); lent = refl; named = refl }
