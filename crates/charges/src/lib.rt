@@ -5,7 +5,7 @@ pub mod numbers;
 pub mod theorems;
 
 /// A dataset of the tree. A dataset's number is the place of its row; dataset 0 is the root, and every other stands after its parent.
-#[derive(Clone, Copy)]
+#[derive(Clone, Copy, PartialEq, Eq, Debug, Default)]
 pub struct Row {
     /// The dataset that this one is in; the root's is not used.
     pub parent: u8,

@@ -1,14 +1,15 @@
 // The plain data of a ledger. Nothing here is kept twice.
 
 /// What a dataset is: a folder has datasets in it, a volume records.
-#[derive(Clone, Copy)]
+#[derive(Clone, Copy, PartialEq, Eq, Debug, Default)]
 pub enum Kind {
+    #[default]
     Folder,
     Volume,
 }
 
 /// What a dataset holds, apart from its place in the tree. A folder has no records, and no units.
-#[derive(Clone, Copy)]
+#[derive(Clone, Copy, PartialEq, Eq, Debug)]
 pub struct Contents {
     pub name: [u8; 8],
     /// The number of records, 1 to 64 for a volume.
@@ -20,7 +21,7 @@ pub struct Contents {
 }
 
 /// One of the 32 transactions.
-#[derive(Clone, Copy)]
+#[derive(Clone, Copy, PartialEq, Eq, Debug)]
 pub enum Transaction {
     Idle,
     Created { volume: u8 },
@@ -31,7 +32,7 @@ pub enum Transaction {
 }
 
 /// Who has a unit.
-#[derive(Clone, Copy)]
+#[derive(Clone, Copy, PartialEq, Eq, Debug)]
 pub enum Holder {
     /// The unit is in.
     Nobody,
