@@ -81,7 +81,7 @@ impl LedgerFault {
             LedgerFault::InTree {
                 fault,
                 transaction: _,
-            } => fault.refusal(),
+            } => Refusal::from(fault),
         }
     }
 

@@ -55,11 +55,6 @@ if_reservation d units quota answer =
     (cond (nat_lt quota units) (Err (ReservationTooLarge d (units - quota)))
     answer))
 
--- a walk as a result
-abbrev pub judged : Option (ℕ × ℕ) → Result (Unit {0}) (ℕ × ℕ)
-judged None = Ok tt
-judged (Some walked) = Err walked
-
 abbrev pub as_dataset : List Row → ℕ → Result (Unit {0}) TreeFault
 as_dataset rows d = if_exists rows d (Ok tt)
 

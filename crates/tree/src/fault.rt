@@ -1,6 +1,6 @@
 // Why the tree refuses, as an enum and in numbers.
 ghost use Rattle.std.specs.Prelude.{◌≡◌};
-ghost use Rattle.tree.specs.Faults.{limit_fault, refusal_of, tree_refusal};
+ghost use Rattle.tree.specs.Faults.{refusal_of, tree_refusal};
 
 use orders::answer::{Layer, Refusal};
 
@@ -27,16 +27,16 @@ pub enum TreeFault {
     LimitPassed { dataset: u8, shortfall: u16 },
 }
 
-impl TreeFault {
-    /// This fault in numbers.
-    pub fn refusal(self) -> Refusal
-        ensures { result ≡ refusal_of self }
-    {
-        match self {
-            TreeFault::Missing { dataset } => tree_refusal(12, dataset, 0),
-            TreeFault::IsRoot { dataset } => tree_refusal(12, dataset, 0),
-            TreeFault::NotFolder { dataset } => tree_refusal(12, dataset, 0),
-            TreeFault::NotVolume { dataset } => tree_refusal(12, dataset, 0),
+/// A fault in numbers.
+impl From<TreeFault> for Refusal {
+    ghost from_gives = { λ fault refusal. refusal ≡ refusal_of fault };
+
+    fn from(fault: TreeFault) -> Refusal {
+        match fault {
+            TreeFault::Missing { dataset }
+            | TreeFault::IsRoot { dataset }
+            | TreeFault::NotFolder { dataset }
+            | TreeFault::NotVolume { dataset } => tree_refusal(12, dataset, 0),
             TreeFault::Full => tree_refusal(13, 0, 64),
             TreeFault::RecordCount { records } => tree_refusal(14, records, 0),
             TreeFault::QuotaTooSmall { dataset, short } => tree_refusal(15, dataset, short),
@@ -55,17 +55,5 @@ fn tree_refusal(number: u8, item: u8, amount: u16) -> Refusal
         layer: Layer::Tree,
         item,
         amount,
-    }
-}
-
-/// A failed walk, a dataset and its shortfall, as a fault.
-impl From<(u8, u16)> for TreeFault {
-    ghost from_gives = { λ walked fault. fault ≡ limit_fault walked };
-
-    fn from(walked: (u8, u16)) -> TreeFault {
-        TreeFault::LimitPassed {
-            dataset: walked.0,
-            shortfall: walked.1,
-        }
     }
 }

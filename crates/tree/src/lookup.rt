@@ -1,9 +1,9 @@
 // What can be asked of a tree.
-ghost use Rattle.std.specs.Prelude.{◌≡◌, ℕ, ◌^◌, ◌<◌, length, pos, Some, nat_lt};
+ghost use Rattle.std.specs.Prelude.{◌≡◌, ℕ, ◌^◌, ◌<◌, length, pos, Some, Ok, nat_lt};
 ghost use Rattle.charges.specs.Tree.{charge as charge_in, row as row_in};
 ghost use Rattle.charges.specs.Walk.{walk as walk_in};
 ghost use Rattle.tree.specs.Parts.{Sound, kinds_of, room_of, rows_of};
-ghost use Rattle.tree.specs.Answers.{as_child, as_dataset, as_folder, as_volume, charge_answer, judged, kind_in, reservation_walk, walk_answer};
+ghost use Rattle.tree.specs.Answers.{as_child, as_dataset, as_folder, as_volume, charge_answer, if_granted, kind_in, reservation_walk, walk_answer};
 
 use super::Tree;
 use super::fault::TreeFault;
@@ -83,18 +83,18 @@ impl Tree {
     }
 
     // What a walk for more own units says.
-    pub(crate) fn judge_rise(&self, d: u8, units: u16) -> Result<(), (u8, u16)>
+    pub(crate) fn judge_rise(&self, d: u8, units: u16) -> Result<(), TreeFault>
         requires { d < length (rows_of self.now) }
-        ensures { result ≡ judged (walk_in (room_of self.now) (rows_of self.now) d (pos units)) }
+        ensures { result ≡ if_granted (walk_in (room_of self.now) (rows_of self.now) d (pos units)) (Ok tt) }
     {
         self.judge(d, i32::from(units))
     }
 
     // What a walk from the parent says for another reservation, by the change of the weight.
-    pub(crate) fn judge_reservation(&self, d: u8, units: u16) -> Result<(), (u8, u16)>
+    pub(crate) fn judge_reservation(&self, d: u8, units: u16) -> Result<(), TreeFault>
         requires inside { d < length (rows_of self.now) }
         requires below { 0 < d }
-        ensures { result ≡ judged (reservation_walk (room_of self.now) (rows_of self.now) d units) }
+        ensures { result ≡ if_granted (reservation_walk (room_of self.now) (rows_of self.now) d units) (Ok tt) }
     {
         let row = self.row(d);
         let change = reweighed(self.kept(d), row.reservation, units);
@@ -102,13 +102,16 @@ impl Tree {
     }
 
     // The walk from a dataset that exists, whose shortfall has two bytes.
-    pub(crate) fn judge(&self, d: u8, change: i32) -> Result<(), (u8, u16)>
+    pub(crate) fn judge(&self, d: u8, change: i32) -> Result<(), TreeFault>
         requires inside { d < length (rows_of self.now) }
         requires fits { (e s : ℕ) → walk_in (room_of self.now) (rows_of self.now) d change ≡ Some (e, s) → s < 2 ^ 16 }
-        ensures { result ≡ judged (walk_in (room_of self.now) (rows_of self.now) d change) }
+        ensures { result ≡ if_granted (walk_in (room_of self.now) (rows_of self.now) d change) (Ok tt) }
     {
         match self.climb(d, change) {
-            Some((dataset, shortfall)) => Err((dataset, shortfall as u16)),
+            Some((dataset, shortfall)) => Err(TreeFault::LimitPassed {
+                dataset,
+                shortfall: shortfall as u16,
+            }),
             None => Ok(()),
         }
     }

@@ -1,7 +1,7 @@
-use Rattle.std.proofs.Common.{sym, ap, ◌∙◌, arith, w32, SFits, rules}
+use Rattle.std.proofs.Common.{Ok, sym, ap, ◌∙◌, arith, w32, SFits, rules}
 use Rattle.std.proofs.lemmas.Int.{to_z-of_z}
 use Rattle.charges.specs.declared.Row.{Row}
-use Rattle.tree.specs.Answers.{judged}
+use Rattle.tree.specs.Answers.{if_granted}
 use Rattle.tree.proofs.Granted.{weighs, parent-inside, reserve-fits, same-walk}
 use Rattle.tree.proofs.Tree.judge_reservation.Goals as goal
 
@@ -22,4 +22,4 @@ returns c =
     let change = weighs c.args.self.now c.args.d c.args.units c.row-row.result c.kept.result c.reweighed-change.result _ c.row-row.ensures c.kept.ensures
     c.reweighed-change.ensures (to_z-of_z w32 c.reweighed-change.result fit) in
     c.judge.ensures
-    ∙ ap judged (sym (same-walk c.args.self.now c.args.d c.args.units _ _ c.requires.inside c.requires.below (ap (λ (r : Row). r.parent) c.row-row.ensures) change))
+    ∙ ap (λ w. if_granted w (Ok tt)) (sym (same-walk c.args.self.now c.args.d c.args.units _ _ c.requires.inside c.requires.below (ap (λ (r : Row). r.parent) c.row-row.ensures) change))
