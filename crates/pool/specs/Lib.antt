@@ -4,3 +4,4 @@ pub mod Marks
 pub mod Links
 pub mod Pairs
 pub mod Batches
+pub mod Once

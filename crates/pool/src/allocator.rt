@@ -41,6 +41,9 @@ pub trait Allocator {
     // the proof that there are 1 to 4,096 units
     ghost sized: { (s : Self) → wellmade s → (1 ≤ length (units s)) × (length (units s) ≤ 4096) };
 
+    // the proof that a value is well made in one way only
+    ghost once: { (s : Self) → IsProp (wellmade s) };
+
     /// How many units there are.
     fn size(&self) -> u16
         requires { wellmade self.now }

@@ -1,6 +1,7 @@
 // An allocator over lent bytes, one bit a unit.
 ghost use Rattle.std.specs.Prelude.{◌≡◌, ℕ, ◌*◌, ◌/◌, ◌<◌, ◌≤◌, min, true, false, length, replicate, MatchOption, ◌≢◌, slice_index};
 ghost use Rattle.pool.specs.Marks.{bit_of, bit_at, marks, turned, low_cleared, cleared, beside_bits, Room, Mapped, TookLowest, GaveBit, marks-sized};
+ghost use Rattle.pool.specs.Once.{mapped_once};
 ghost use Rattle.pool.specs.Units.{Took, Gave, Checked, Kept};
 
 use super::allocator::{Allocator, AllocatorFault};
@@ -137,6 +138,8 @@ impl Allocator for Bitmap<'_> {
     ghost lent = { λ s. beside_bits s.memory.ghost_name s.memory.now s.size };
 
     ghost sized = { λ s w. marks-sized s.memory.now s.size w.room };
+
+    ghost once = { λ s. mapped_once s.memory.now s.size s.hint };
 
     fn size(&self) -> u16 {
         self.size

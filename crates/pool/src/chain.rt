@@ -1,6 +1,7 @@
 // An allocator over lent two-byte entries, one a unit, that links the units that are in.
 ghost use Rattle.std.specs.Prelude.{◌≡◌, ◌<◌, ◌≤◌, false, length, replicate, slice_index};
 ghost use Rattle.pool.specs.Links.{taken, chained, beside_links, Space, Linked, TookHead, GaveHead, taken-sized};
+ghost use Rattle.pool.specs.Once.{linked_once};
 ghost use Rattle.pool.specs.Units.{Took, Gave, Checked, Kept};
 
 use super::allocator::{Allocator, AllocatorFault};
@@ -73,6 +74,8 @@ impl Allocator for Chain<'_> {
     ghost lent = { λ s. beside_links s.links.ghost_name s.links.now s.size };
 
     ghost sized = { λ s w. taken-sized s.links.now s.size w.space };
+
+    ghost once = { λ s. linked_once s.links.now s.size s.head };
 
     fn size(&self) -> u16 {
         self.size

@@ -1,5 +1,6 @@
 // An allocator made of any two: the second's units follow the first's.
 ghost use Rattle.std.specs.Prelude.{◌≡◌, ◌+◌, ◌≤◌, ◌++◌, length};
+ghost use Rattle.pool.specs.Once.{joined_once};
 ghost use Rattle.pool.specs.Pairs.{Few, Placed, joined_sized};
 ghost use Rattle.pool.specs.Units.{Checked};
 
@@ -69,6 +70,8 @@ impl<A: Allocator, B: Allocator> Allocator for Joined<A, B> {
     ghost lent = { λ s. A.Allocator.lent s.first ++ B.Allocator.lent s.second };
 
     ghost sized = { λ s w. joined_sized (A.Allocator.units s.first) (B.Allocator.units s.second) (A.Allocator.sized s.first w.0) w.2 };
+
+    ghost once = { λ s. joined_once (A.Allocator.units s.first) (B.Allocator.units s.second) (A.Allocator.once s.first) (B.Allocator.once s.second) };
 
     fn size(&self) -> u16 {
         self.first.size() + self.second.size()
