@@ -1,30 +1,14 @@
 // Answers written into lent memory.
 ghost use Rattle.std.specs.Prelude.{◌≡◌, ◌+◌, ◌≤◌, ◌++◌, length};
-ghost use Rattle.orders.specs.Layout.{answer_bytes, laid, layer_number, two, Written};
+ghost use Rattle.orders.specs.Layout.{answer_bytes, laid, two, Written};
 ghost use Rattle.orders.specs.declared.answer.Answer.TheVariants.{Done, Refused, Told, Stopped};
 
-use super::answer::{Answer, Figures, Layer, Refusal};
+use super::answer::{Answer, Figures, Refusal};
 
 /// The answer needs more bytes than there are behind the place.
-#[derive(Clone, Copy)]
+#[derive(Clone, Copy, PartialEq, Eq, Debug)]
 pub struct NoRoom {
     pub needed: usize,
-}
-
-impl Layer {
-    /// The layer's number in an answer.
-    pub fn number(self) -> u8
-        ensures { result ≡ layer_number self }
-    {
-        self as u8
-    }
-}
-
-/// The high and the low byte of a two-byte field.
-fn two_bytes(value: u16) -> [u8; 2]
-    ensures { result ≡ two value }
-{
-    [(value / 256) as u8, (value % 256) as u8]
 }
 
 // Writes the bytes from a place on; the others keep their contents.
@@ -32,16 +16,14 @@ fn lay(out: &mut [u8], at: usize, bytes: &[u8])
     requires { at + length bytes.now ≤ length out.old }
     ensures { out.new ≡ laid out.old at bytes.now }
 {
-    for i in 0..bytes.len() {
-        out[at + i] = bytes[i];
-    }
+    out[at..at + bytes.len()].copy_from_slice(bytes);
 }
 
 fn lay_done(out: &mut [u8], at: usize, value: u16)
     requires { at + 3 ≤ length out.old }
     ensures { out.new ≡ laid out.old at (answer_bytes (Done value)) }
 {
-    let [high, low] = two_bytes(value);
+    let [high, low] = value.to_be_bytes();
     lay(out, at, &[0x80, high, low]);
 }
 
@@ -49,14 +31,14 @@ fn lay_refused(out: &mut [u8], at: usize, refusal: Refusal)
     requires { at + 6 ≤ length out.old }
     ensures { out.new ≡ laid out.old at (answer_bytes (Refused refusal)) }
 {
-    let [high, low] = two_bytes(refusal.amount);
+    let [high, low] = refusal.amount.to_be_bytes();
     lay(
         out,
         at,
         &[
             0x81,
             refusal.number,
-            refusal.layer.number(),
+            u8::from(refusal.layer),
             refusal.item,
             high,
             low,
@@ -68,17 +50,17 @@ fn lay_stopped(out: &mut [u8], at: usize, number: u8, place: u16)
     requires { at + 4 ≤ length out.old }
     ensures { out.new ≡ laid out.old at (answer_bytes (Stopped number place)) }
 {
-    let [high, low] = two_bytes(place);
+    let [high, low] = place.to_be_bytes();
     lay(out, at, &[0x83, number, high, low]);
 }
 
 fn counts(figures: Figures) -> [u8; 8]
     ensures { result ≡ two figures.charge ++ (two figures.record_units ++ (two figures.deferred_units ++ two figures.unspent_grants)) }
 {
-    let [charge_high, charge_low] = two_bytes(figures.charge);
-    let [records_high, records_low] = two_bytes(figures.record_units);
-    let [deferred_high, deferred_low] = two_bytes(figures.deferred_units);
-    let [grants_high, grants_low] = two_bytes(figures.unspent_grants);
+    let [charge_high, charge_low] = figures.charge.to_be_bytes();
+    let [records_high, records_low] = figures.record_units.to_be_bytes();
+    let [deferred_high, deferred_low] = figures.deferred_units.to_be_bytes();
+    let [grants_high, grants_low] = figures.unspent_grants.to_be_bytes();
     [
         charge_high,
         charge_low,
@@ -89,13 +71,6 @@ fn counts(figures: Figures) -> [u8; 8]
         grants_high,
         grants_low,
     ]
-}
-
-fn told_len(figures: Figures) -> usize
-    ensures { result ≡ length (answer_bytes (Told figures)) }
-{
-    let name: &[u8] = &figures.name;
-    9 + name.len()
 }
 
 fn lay_told(out: &mut [u8], at: usize, figures: Figures)
@@ -115,7 +90,7 @@ impl Answer {
         match *self {
             Answer::Done { .. } => 3,
             Answer::Refused(_) => 6,
-            Answer::Told(figures) => told_len(figures),
+            Answer::Told(figures) => 9 + figures.name.as_slice().len(),
             Answer::Stopped { .. } => 4,
         }
     }
