@@ -34,7 +34,7 @@ fn refusal_text(heap: Global, refusal: Refusal) -> Result<String, AllocError>
         item,
         amount,
     } = refusal;
-    let layer = layer.number();
+    let layer = u8::from(layer);
     format!(in heap; " refused {number} layer {layer} item {item} amount {amount}")
 }
 

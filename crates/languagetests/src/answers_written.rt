@@ -70,10 +70,10 @@ fn every_answer_has_its_bytes(rt: HostRuntime) -> Result<(), Fail> {
 
 #[test]
 fn every_layer_has_its_number(rt: HostRuntime) {
-    assert!(rt; Layer::Script.number() == 1);
-    assert!(rt; Layer::Transactions.number() == 2);
-    assert!(rt; Layer::Tree.number() == 3);
-    assert!(rt; Layer::Allocator.number() == 4);
+    assert_eq!(rt; u8::from(Layer::Script), 1);
+    assert_eq!(rt; u8::from(Layer::Transactions), 2);
+    assert_eq!(rt; u8::from(Layer::Tree), 3);
+    assert_eq!(rt; u8::from(Layer::Allocator), 4);
 }
 
 #[test]
