@@ -6,10 +6,8 @@ use Rattle.pool.specs.Units.{outs}
 use Rattle.rules.specs.Holders.{same, is_held, is_deferred}
 use Rattle.rules.specs.declared.state.Holder.{Holder}
 use Rattle.rules.specs.declared.state.Holder.TheVariants.{Nobody, Record}
-use Rattle.marks.specs.declared.marks.Marks.{Marks}
-use Rattle.marks.specs.declared.table.Table.{Table}
-use Rattle.marks.specs.Linked.{Named, Chained, Linked, rows_of}
-use Rattle.marks.specs.Sound.{Sound, holders_of}
+use Rattle.marks.specs.Linked.{Named, Chained, Linked}
+use Rattle.marks.specs.Held.{Held}
 
 take-replicate : {X : Type 0} (n m : ℕ) (x : X) → n ≤ m → take n (replicate m x) ≡ replicate n x
 take-replicate zero m x l = refl
@@ -51,29 +49,19 @@ fresh-linked n hs next first d long wide heads none firsts e =
       deferred = empty n hs next d is_deferred e refl none;
     }
 
-fresh-rows : (t : Table) (n m : ℕ) → n ≤ m → t.size ≡ n → t.holders ≡ replicate m Nobody → rows_of t ≡ replicate n Nobody
-fresh-rows t n m l es eh = ap (λ (k : ℕ). take k t.holders) es ∙ ap (take n) eh ∙ take-replicate n m Nobody l
+-- the rows and the lists of a table that is made for n units
+pub fresh-rows : (n : ℕ) → n ≤ 4096 → take n (replicate 4096 Nobody) ≡ replicate n Nobody
+fresh-rows n l = take-replicate n 4096 Nobody l
 
-module _ {A : Type 0} (U : A → List Bool) (W : A → Type 0) (m : Marks A) (n : ℕ) (w : W m.pool) (few : n ≤ 4096) (long : length (U m.pool) ≡ n) (none : U m.pool ≡ replicate n false) where
-  -- of a table that was made for n units
-  pub fresh : (s : ℕ) → s ≡ n → m.out ≡ 0 → m.table.size ≡ s → m.table.holders ≡ replicate 4096 Nobody → m.table.next ≡ replicate 4096 s → m.table.first ≡ replicate 4096 s → m.table.deferred ≡ s →
-      Sound U W m × (holders_of m ≡ replicate n Nobody)
-  fresh s q eo ez eh el ef ed =
-      let es : m.table.size ≡ n = ez ∙ q in
-      let rows : holders_of m ≡ replicate n Nobody = fresh-rows m.table n 4096 few es eh in
-      let nobody : (u : ℕ) → get_or (holders_of m) u Nobody ≡ Nobody = λ u. ap (λ (l : List Holder). get_or l u Nobody) rows ∙ all_same n u Nobody in
-      let counted : length (holders_of m) ≡ n = ap length rows ∙ length-replicate n Nobody in
-      let linked : Linked n (holders_of m) m.table.next m.table.first m.table.deferred = fresh-linked n (holders_of m) m.table.next m.table.first m.table.deferred counted
-      (ap length el ∙ length-replicate 4096 s) (ap length ef ∙ length-replicate 4096 s) nobody
-      (λ k l. ap (λ (x : List ℕ). get_or x k 0) ef ∙ get_or-replicate 4096 k s 0 l ∙ q) (ed ∙ q) in
-      let P : ℕ → Type 0 = λ k. Linked k (holders_of m) m.table.next m.table.first m.table.deferred in (
-        record {
-          wellmade = w;
-          sized = long ∙ sym es;
-          long = counted ∙ sym es;
-          held = λ u. ap (λ (l : List Bool). get_or l u false) none ∙ all_same n u false ∙ sym (ap is_held (nobody u));
-          counted = eo ∙ sym (ap outs none ∙ none_out n);
-          tabled = record { small = omega arith; whole = ap length eh ∙ length-replicate 4096 Nobody; linked = subst P (sym es) linked };
-        },
-        rows,
-      )
+pub fresh : (n : ℕ) → n ≤ 4096 → Linked n (take n (replicate 4096 Nobody)) (replicate 4096 n) (replicate 4096 n) n
+fresh n l =
+    rw (fresh-rows n l) (fresh-linked n (replicate n Nobody) (replicate 4096 n) (replicate 4096 n) n (length-replicate n Nobody) (length-replicate 4096 n) (length-replicate 4096 n)
+    (λ u. all_same n u Nobody) (λ k b. get_or-replicate 4096 k n 0 b) refl)
+
+-- no unit is out, and none has a holder
+pub fresh_held : (us : List Bool) (hs : List Holder) (n : ℕ) → us ≡ replicate n false → hs ≡ replicate n Nobody → Held us hs
+fresh_held us hs n eu eh =
+    λ u. ap (λ (l : List Bool). get_or l u false) eu ∙ all_same n u false ∙ sym (ap (λ (l : List Holder). is_held (get_or l u Nobody)) eh ∙ ap is_held (all_same n u Nobody))
+
+pub fresh_outs : (us : List Bool) (n : ℕ) → us ≡ replicate n false → outs us ≡ 0
+fresh_outs us n e = ap outs e ∙ none_out n

@@ -1,18 +1,20 @@
 -- Deferred units are given back one by one.
-use Rattle.std.proofs.Common.{◌≡◌, ℕ, ◌+◌, ◌-◌, ◌<◌, ◌≤◌, Bool, true, false, not, ◌&&◌, List, map, length, get_or, set, count_by, sym, refl, ap, ◌∙◌, inl, inr, arith}
+use Rattle.std.proofs.Common.{◌≡◌, ℕ, ◌+◌, ◌-◌, ◌<◌, ◌≤◌, Bool, true, false, not, ◌&&◌, Some, None, Err, List, map, length, get_or, set, count_by, sym, refl, ap, ◌∙◌, inl, inr, arith}
 use Rattle.std.proofs.lemmas.List.FromFn.{length-map-range_with_len, get_or-map-range_with_len}
 use Rattle.std.proofs.lemmas.List.{length-set, get_or-set_same, get_or-set_other, ext_get_or}
 use Rattle.std.proofs.lemmas.Bool.{cases_eq, true≢false, and_left, and_right}
-use Rattle.pool.specs.Units.{outs}
+use Rattle.pool.specs.declared.allocator.Allocator.{Ghosts}
+use Rattle.pool.specs.declared.allocator.AllocatorFault.{AllocatorFault}
+use Rattle.pool.specs.Units.{outs, Gave}
 use Rattle.pool.proofs.Outs.{within, outs_given}
 use Rattle.rules.specs.Holders.{is_held, is_deferred, release}
 use Rattle.rules.specs.declared.state.Holder.{Holder}
 use Rattle.rules.specs.declared.state.Holder.TheVariants.{Nobody, Record, Deferred}
 use Rattle.marks.specs.declared.marks.Marks.{Marks}
-use Rattle.marks.specs.Linked.{Tabled}
-use Rattle.marks.specs.Sound.{Sound, returned, pool_of, holders_of, size_of}
-use Rattle.marks.proofs.Chains.{none-own}
+use Rattle.marks.specs.Held.{Held}
+use Rattle.marks.specs.Sound.{GaveOne, returned, pool_of, holders_of, size_of}
 use Rattle.marks.proofs.Rows.{moved-one, moved_none}
+use Rattle.marks.proofs.Takes.{matching}
 
 held-deferred : (h : Holder) → is_deferred h ≡ true → is_held h ≡ true
 held-deferred Nobody e = absurd (true≢false (sym e))
@@ -66,66 +68,72 @@ returned-none us hs none =
     (λ k l. returned-at us hs k (omega (arith, length-returned us hs)) ∙ ap (λ (b : Bool). get_or us k false && not b) (none k) ∙ and_true (get_or us k false))
 
 -- one deferred unit has come in
-module _ {A : Type 0} (U : A → List Bool) (W : A → Type 0) (m : Marks A) (u : ℕ) (s : Sound U W m) (d : is_deferred (get_or (holders_of m) u Nobody) ≡ true) where
-  pub is_out : get_or (U (pool_of m)) u false ≡ true
-  is_out = s.held u ∙ held-deferred (get_or (holders_of m) u Nobody) d
+module _ (us : List Bool) (hs : List Holder) (u : ℕ) (held : Held us hs) (d : is_deferred (get_or hs u Nobody) ≡ true) where
+  pub is_out : get_or us u false ≡ true
+  is_out = held u ∙ held-deferred (get_or hs u Nobody) d
 
-  pub some_out : 1 ≤ m.out
-  some_out = omega (arith, s.counted, outs_given (U (pool_of m)) u is_out)
+  pub some_out : 1 ≤ outs us
+  some_out = omega (arith, outs_given us u is_out)
 
-  pub gave_sound : (m' : Marks A) → U (pool_of m') ≡ set (U (pool_of m)) u false → W (pool_of m') → m'.out ≡ m.out - 1 → Tabled m'.table → holders_of m' ≡ set (holders_of m) u Nobody → size_of m' ≡ size_of m → Sound U W m'
-  gave_sound m' eu w eo tabled eh es =
-      let us = U (pool_of m) in
-      let hs = holders_of m in
+  pub gave_held : (vs : List Bool) (ks : List Holder) → length us ≡ length hs → vs ≡ set us u false → ks ≡ set hs u Nobody → Held vs ks
+  gave_held vs ks long eu eh =
       let lu : u < length us = within us u is_out in
-      let l : u < length hs = omega (arith, s.sized, s.long) in
-      record {
-        wellmade = w;
-        sized = ap length eu ∙ length-set us u false ∙ s.sized ∙ sym es;
-        long = ap length eh ∙ length-set hs u Nobody ∙ s.long ∙ sym es;
-        held = λ k.
-            ap (λ (x : List Bool). get_or x k false) eu
-            ∙ elim (cases_eq k u) as (λ _. get_or (set us u false) k false ≡ is_held (get_or (set hs u Nobody) k Nobody)) [
-              | inl q ↦
-                  ap (λ (j : ℕ). get_or (set us u false) j false) q ∙ get_or-set_same us u false false lu
-                  ∙ sym (ap (λ (j : ℕ). is_held (get_or (set hs u Nobody) j Nobody)) q ∙ ap is_held (get_or-set_same hs u Nobody Nobody l))
-              | inr ne ↦ get_or-set_other us u k false false ne ∙ s.held k ∙ ap is_held (sym (get_or-set_other hs u k Nobody Nobody ne))
-            ]
-            ∙ ap (λ (x : List Holder). is_held (get_or x k Nobody)) (sym eh);
-        counted = omega (arith, eo, s.counted, ap outs eu, outs_given us u is_out);
-        tabled = tabled;
-      }
+      let l : u < length hs = omega (arith, long) in
+      λ k.
+      ap (λ (x : List Bool). get_or x k false) eu
+      ∙ elim (cases_eq k u) as (λ _. get_or (set us u false) k false ≡ is_held (get_or (set hs u Nobody) k Nobody)) [
+        | inl q ↦
+            ap (λ (j : ℕ). get_or (set us u false) j false) q ∙ get_or-set_same us u false false lu
+            ∙ sym (ap (λ (j : ℕ). is_held (get_or (set hs u Nobody) j Nobody)) q ∙ ap is_held (get_or-set_same hs u Nobody Nobody l))
+        | inr ne ↦ get_or-set_other us u k false false ne ∙ held k ∙ ap is_held (sym (get_or-set_other hs u k Nobody Nobody ne))
+      ]
+      ∙ ap (λ (x : List Holder). is_held (get_or x k Nobody)) (sym eh)
+
+  pub gave_counted : (n : ℕ) (vs : List Bool) → n ≡ outs us → vs ≡ set us u false → n - 1 ≡ outs vs
+  gave_counted n vs e eu = omega (arith, ap outs eu, outs_given us u is_out)
+
+-- where the unit is out, a refusal is false
+pub not_in : (us vs : List Bool) (u : ℕ) (f : AllocatorFault) → Gave us vs u (Err f) → get_or us u false ≡ true → ⊥
+not_in us vs u f g e = true≢false (sym e ∙ g.1)
 
 -- what the loop has done
-pub record Returning {A : Type 0} (U : A → List Bool) (k : ℕ) (m₀ m : Marks A) : Type 0 where
+pub record Returning {A : Type 0} {G : Ghosts A} (k : ℕ) (m₀ m : Marks A G) : Type 0 where
   pub rows : map release (holders_of m) ≡ map release (holders_of m₀)
-  pub units : returned (U (pool_of m)) (holders_of m) ≡ returned (U (pool_of m₀)) (holders_of m₀)
+  pub units : returned (G.units (pool_of m)) (holders_of m) ≡ returned (G.units (pool_of m₀)) (holders_of m₀)
   pub many : k + count_by is_deferred (holders_of m) ≡ count_by is_deferred (holders_of m₀)
-  pub fewer : outs (U (pool_of m)) + k ≡ outs (U (pool_of m₀))
+  pub fewer : outs (G.units (pool_of m)) + k ≡ outs (G.units (pool_of m₀))
   pub sized : size_of m ≡ size_of m₀
+  pub lent : G.lent (pool_of m) ≡ G.lent (pool_of m₀)
 
-module _ {A : Type 0} (U : A → List Bool) (W : A → Type 0) (k : ℕ) (m₀ m : Marks A) (s : Sound U W m) (w : Returning U k m₀ m) where
-  pub returning_more : (m' : Marks A) (u : ℕ) → is_deferred (get_or (holders_of m) u Nobody) ≡ true → holders_of m' ≡ set (holders_of m) u Nobody → U (pool_of m') ≡ set (U (pool_of m)) u false → size_of m' ≡ size_of m →
-      Returning U (k + 1) m₀ m' × (count_by is_deferred (holders_of m') + 1 ≡ count_by is_deferred (holders_of m))
-  returning_more m' u d eh eu es =
-      let us = U (pool_of m) in
+module _ {A : Type 0} {G : Ghosts A} (k : ℕ) (m₀ m m' : Marks A G) (w : Returning k m₀ m) (es : size_of m' ≡ size_of m) (el : G.lent (pool_of m') ≡ G.lent (pool_of m)) where
+  pub returning_more : (u : ℕ) → GaveOne G.units m m' (Some u) →
+      Returning (k + 1) m₀ m' × (count_by is_deferred (holders_of m') + 1 ≡ count_by is_deferred (holders_of m))
+  returning_more u gave =
+      let us = G.units (pool_of m) in
       let hs = holders_of m in
-      let lu : u < length us = within us u (is_out U W m u s d) in
-      let l : u < length hs = omega (arith, s.sized, s.long) in
-      let o = moved-one release is_deferred hs u Nobody Nobody l (release-deferred (get_or hs u Nobody) d) d refl in
-      let c : count_by is_deferred (holders_of m') + 1 ≡ count_by is_deferred hs = ap (λ (x : List Holder). count_by is_deferred x + 1) eh ∙ o.1 in (
+      let o = is_out us hs u m.held gave.0 in
+      let lu : u < length us = within us u o in
+      let l : u < length hs = omega (arith, matching m) in
+      let one = moved-one release is_deferred hs u Nobody Nobody l (release-deferred (get_or hs u Nobody) gave.0) gave.0 refl in
+      let c : count_by is_deferred (holders_of m') + 1 ≡ count_by is_deferred hs = ap (λ (x : List Holder). count_by is_deferred x + 1) gave.1 ∙ one.1 in (
         record {
-          rows = ap (map release) eh ∙ o.0 ∙ w.rows;
-          units = ap (λ (x : List Bool). returned x (holders_of m')) eu ∙ ap (returned (set us u false)) eh ∙ returned-more us hs u lu d ∙ w.units;
+          rows = ap (map release) gave.1 ∙ one.0 ∙ w.rows;
+          units = ap (λ (x : List Bool). returned x (holders_of m')) gave.2 ∙ ap (returned (set us u false)) gave.1 ∙ returned-more us hs u lu gave.0 ∙ w.units;
           many = omega (arith, w.many);
-          fewer = omega (arith, w.fewer, ap outs eu, outs_given us u (is_out U W m u s d));
+          fewer = omega (arith, w.fewer, ap outs gave.2, outs_given us u o);
           sized = es ∙ w.sized;
+          lent = el ∙ w.lent;
         },
         c,
       )
 
-  pub returning_end : m.table.deferred ≡ size_of m → (holders_of m ≡ map release (holders_of m₀)) × (U (pool_of m) ≡ returned (U (pool_of m₀)) (holders_of m₀)) × (k ≡ count_by is_deferred (holders_of m₀))
-  returning_end e =
-      let none = none-own (size_of m) (holders_of m) m.table.next is_deferred m.table.deferred s.tabled.linked.deferred e in
-      let o = moved_none release is_deferred Nobody unreleased (holders_of m) none in
-      (sym o.0 ∙ w.rows, sym (returned-none (U (pool_of m)) (holders_of m) none) ∙ w.units, omega (arith, w.many, o.1))
+  pub returning_end : GaveOne G.units m m' None → (holders_of m' ≡ map release (holders_of m₀)) × (G.units (pool_of m') ≡ returned (G.units (pool_of m₀)) (holders_of m₀))
+      × (k ≡ count_by is_deferred (holders_of m₀)) × (outs (G.units (pool_of m')) + k ≡ outs (G.units (pool_of m₀)))
+  returning_end end =
+      let o = moved_none release is_deferred Nobody unreleased (holders_of m) end.0 in
+      let eu = ap G.units end.2 in (
+        end.1 ∙ sym o.0 ∙ w.rows,
+        eu ∙ sym (returned-none (G.units (pool_of m)) (holders_of m) end.0) ∙ w.units,
+        omega (arith, w.many, o.1),
+        omega (arith, w.fewer, ap outs eu),
+      )

@@ -1,107 +1,88 @@
 -- What the calls of a table do to its rows, and that they keep it well made.
-use Rattle.std.proofs.Common.{◌≡◌, ℕ, ◌+◌, ◌*◌, ◌<◌, ◌≤◌, Bool, true, false, not, eqb, List, map, length, get_or, take, set, count_by, sym, refl, ap, ◌∙◌, subst, inl, inr, arith}
-use Rattle.std.proofs.lemmas.List.{length-set, get_or-take, get_or_past}
+use Rattle.std.proofs.Common.{◌≡◌, ℕ, ◌+◌, ◌*◌, ◌<◌, ◌≤◌, Bool, true, false, Some, None, List, map, length, get_or, take, set, count_by, sym, refl, ap, ◌∙◌, subst, inl, inr, arith}
+use Rattle.std.proofs.lemmas.List.{get_or-take, get_or_past}
 use Rattle.std.proofs.lemmas.List.Sums.{count_by-le-length}
-use Rattle.std.proofs.lemmas.Bool.{eqb-true, eq-eqb, cases_Bool, true≢false, cond-true, cond-false}
+use Rattle.std.proofs.lemmas.Bool.{cases_Bool, cond-true, cond-false}
 use Rattle.rules.specs.Holders.{same, count, is_deferred, defer}
 use Rattle.rules.specs.declared.state.Holder.{Holder}
 use Rattle.rules.specs.declared.state.Holder.TheVariants.{Nobody, Record, Deferred}
 use Rattle.marks.specs.declared.table.Table.{Table}
-use Rattle.marks.specs.Linked.{Named, Linked, Tabled, rows_of}
+use Rattle.marks.specs.Linked.{Named, Linked}
+use Rattle.marks.specs.Tabled.{Tabled, rows_of, Shifted}
 use Rattle.marks.proofs.Chains.{head_own, none-own}
 use Rattle.marks.proofs.Moves.{same_self, same_true, to_record, record_head, to_deferred, to_nobody}
 use Rattle.marks.proofs.Rows.{take_set_at, moved-one, moved_none}
 
-pub length-rows : (t : Table) → Tabled t → length (rows_of t) ≡ t.size
-length-rows t w = w.linked.long
+-- every table is well made
+pub tabled : (t : Table) → Tabled t
+tabled t = record { small = t.small; whole = t.whole; linked = t.linked }
 
 pub row_at : (t : Table) (u : ℕ) → u < t.size → get_or t.holders u Nobody ≡ get_or (rows_of t) u Nobody
 row_at t u l = sym (get_or-take t.size t.holders u Nobody l)
 
-pub row-past : (t : Table) (u : ℕ) → Tabled t → t.size ≤ u → Nobody ≡ get_or (rows_of t) u Nobody
-row-past t u w l = sym (get_or_past (rows_of t) u Nobody (omega (arith, w.linked.long)))
+pub row-past : (t : Table) (u : ℕ) → t.size ≤ u → Nobody ≡ get_or (rows_of t) u Nobody
+row-past t u l = sym (get_or_past (rows_of t) u Nobody (omega (arith, t.linked.long)))
 
-linked-at : (n n' : ℕ) (hs hs' : List Holder) (ls ls' fs fs' : List ℕ) (d d' : ℕ) → n' ≡ n → hs' ≡ hs → ls' ≡ ls → fs' ≡ fs → d' ≡ d → Linked n hs ls fs d → Linked n' hs' ls' fs' d'
-linked-at n n' hs hs' ls ls' fs fs' d d' en eh el ef ed w = rw (en, eh, el, ef, ed) w
-
-rows-set : (t t' : Table) (u : ℕ) (y : Holder) → t'.size ≡ t.size → t'.holders ≡ set t.holders u y → rows_of t' ≡ set (rows_of t) u y
-rows-set t t' u y es eh = ap (λ (n : ℕ). take n t'.holders) es ∙ ap (take t.size) eh ∙ take_set_at t.size t.holders u y
-
-module _ (t t' : Table) (w : Tabled t) (es : t'.size ≡ t.size) where
-  tabled-at : (u : ℕ) (y : Holder) (ls fs : List ℕ) (d : ℕ) → t'.holders ≡ set t.holders u y → t'.next ≡ ls → t'.first ≡ fs → t'.deferred ≡ d →
-      Linked t.size (set (rows_of t) u y) ls fs d → Tabled t'
-  tabled-at u y ls fs d eh el ef ed k =
-      record {
-        small = omega (arith, w.small);
-        whole = ap length eh ∙ length-set t.holders u y ∙ w.whole;
-        linked = linked-at _ _ _ _ _ _ _ _ _ _ es (rows-set t t' u y es eh) el ef ed k;
-      }
+-- the entry `a` of a unit, and the entry `i` of a record's head
+module _ (t : Table) (a : ℕ) where
+  pub rows-set : (u : ℕ) (y : Holder) → a ≡ u → take t.size (set t.holders a y) ≡ set (rows_of t) u y
+  rows-set u y e = ap (λ (k : ℕ). take t.size (set t.holders k y)) e ∙ take_set_at t.size t.holders u y
 
   -- a unit goes to a record
-  pub marked : (u v r : ℕ) → (u < t.size) × (get_or (rows_of t) u Nobody ≡ Nobody) → (v < 64) × (r < 64) →
-      t'.holders ≡ set t.holders u (Record v r) → t'.next ≡ set t.next u (get_or t.first (v * 64 + r) 0) → t'.first ≡ set t.first (v * 64 + r) u → t'.deferred ≡ t.deferred →
-      Tabled t' × (rows_of t' ≡ set (rows_of t) u (Record v r))
-  marked u v r free named eh el ef ed = (
-    tabled-at u (Record v r) _ _ _ eh el ef ed (to_record t.size (rows_of t) t.next t.first t.deferred w.linked w.small u v r free.0 free.1 named.0 named.1),
-    rows-set t t' u (Record v r) es eh,
-  )
+  pub marked : (u v r i : ℕ) → a ≡ u → i ≡ v * 64 + r → (u < t.size) × (get_or (rows_of t) u Nobody ≡ Nobody) → (v < 64) × (r < 64) →
+      Linked t.size (take t.size (set t.holders a (Record v r))) (set t.next a (get_or t.first i 0)) (set t.first i u) t.deferred
+  marked u v r i e f free named =
+      rw (rows-set u (Record v r) e, e, f) (to_record t.size (rows_of t) t.next t.first t.deferred t.linked t.small u v r free.0 free.1 named.0 named.1)
 
   -- the unit at the head of the deferred goes to nobody
-  pub released : (t.deferred ≡ t.size → ⊥) →
-      t'.holders ≡ set t.holders t.deferred Nobody → t'.next ≡ t.next → t'.first ≡ t.first → t'.deferred ≡ get_or t.next t.deferred 0 →
-      Tabled t' × (rows_of t' ≡ set (rows_of t) t.deferred Nobody)
-  released ne eh el ef ed = (
-    tabled-at t.deferred Nobody _ _ _ eh el ef ed (to_nobody t.size (rows_of t) t.next t.first t.deferred w.linked w.small ne),
-    rows-set t t' t.deferred Nobody es eh,
-  )
+  pub released : a ≡ t.deferred → (t.deferred ≡ t.size → ⊥) → Linked t.size (take t.size (set t.holders a Nobody)) t.next t.first (get_or t.next a 0)
+  released e ne = rw (rows-set t.deferred Nobody e, e) (to_nobody t.size (rows_of t) t.next t.first t.deferred t.linked t.small ne)
 
   -- the unit at the head of a record is deferred
-  pub shifted : (v r : ℕ) → v < 64 → r < 64 → (get_or t.first (v * 64 + r) 0 ≡ t.size → ⊥) →
-      t'.holders ≡ set t.holders (get_or t.first (v * 64 + r) 0) (Deferred v) → t'.next ≡ set t.next (get_or t.first (v * 64 + r) 0) t.deferred →
-      t'.first ≡ set t.first (v * 64 + r) (get_or t.next (get_or t.first (v * 64 + r) 0) 0) → t'.deferred ≡ get_or t.first (v * 64 + r) 0 →
-      Tabled t' × (rows_of t' ≡ set (rows_of t) (get_or t.first (v * 64 + r) 0) (Deferred v))
-  shifted v r lv lr ne eh el ef ed = (
-    tabled-at _ (Deferred v) _ _ _ eh el ef ed (to_deferred t.size (rows_of t) t.next t.first t.deferred w.linked w.small v r lv lr ne),
-    rows-set t t' _ (Deferred v) es eh,
-  )
+  pub shifted : (u v r i : ℕ) → a ≡ u → i ≡ v * 64 + r → u ≡ get_or t.first i 0 → (v < 64) × (r < 64) → (u ≡ t.size → ⊥) →
+      Linked t.size (take t.size (set t.holders a (Deferred v))) (set t.next a t.deferred) (set t.first i (get_or t.next a 0)) u
+  shifted u v r i e f h named ne =
+      let q : u ≡ get_or t.first (v * 64 + r) 0 = h ∙ ap (λ (k : ℕ). get_or t.first k 0) f in
+      rw (rows-set u (Deferred v) e, e, f, q) (to_deferred t.size (rows_of t) t.next t.first t.deferred t.linked t.small v r named.0 named.1 (λ z. ne (q ∙ z)))
 
-pub head_deferred : (t : Table) → Tabled t → (t.deferred ≡ t.size → ⊥) → (t.deferred < t.size) × (is_deferred (get_or (rows_of t) t.deferred Nobody) ≡ true)
-head_deferred t w ne = head_own t.size (rows_of t) t.next is_deferred t.deferred w.linked.deferred ne
+pub head_deferred : (t : Table) → (t.deferred ≡ t.size → ⊥) → (t.deferred < t.size) × (is_deferred (get_or (rows_of t) t.deferred Nobody) ≡ true)
+head_deferred t ne = head_own t.size (rows_of t) t.next is_deferred t.deferred t.linked.deferred ne
 
-pub head_of : (t : Table) (v r : ℕ) → Tabled t → v < 64 → r < 64 → (get_or t.first (v * 64 + r) 0 ≡ t.size → ⊥) →
-    (get_or t.first (v * 64 + r) 0 < t.size) × (get_or (rows_of t) (get_or t.first (v * 64 + r) 0) Nobody ≡ Record v r)
-head_of t v r w lv lr ne = record_head t.size (rows_of t) t.next t.first t.deferred w.linked w.small v r lv lr ne
+pub deferred_fits : (t : Table) (a : ℕ) → a ≡ t.deferred → (t.deferred ≡ t.size → ⊥) → a < 4096
+deferred_fits t a e ne = let h = head_deferred t ne in omega (arith, h.0, t.small)
 
--- what the test of a list's head says
-pub not-ended : (h n : ℕ) → not (eqb h n) ≡ true → h ≡ n → ⊥
-not-ended h n e q = true≢false (sym (sym (ap not (eq-eqb h n q)) ∙ e))
+pub none_deferred : (t : Table) → t.deferred ≡ t.size → (u : ℕ) → is_deferred (get_or (rows_of t) u Nobody) ≡ false
+none_deferred t e = none-own t.size (rows_of t) t.next is_deferred t.deferred t.linked.deferred e
 
-pub has_ended : (h n : ℕ) → not (eqb h n) ≡ false → h ≡ n
-has_ended h n e = elim (cases_Bool (eqb h n)) [ inl y ↦ eqb-true h n y | inr f ↦ absurd (true≢false (sym (ap not f) ∙ e)) ]
+module _ (t : Table) (u v r i : ℕ) (h : u ≡ get_or t.first i 0) (f : i ≡ v * 64 + r) (named : (v < 64) × (r < 64)) where
+  head : u ≡ get_or t.first (v * 64 + r) 0
+  head = h ∙ ap (λ (k : ℕ). get_or t.first k 0) f
+
+  pub head_of : (u ≡ t.size → ⊥) → (u < t.size) × (get_or (rows_of t) u Nobody ≡ Record v r)
+  head_of ne = rw head (record_head t.size (rows_of t) t.next t.first t.deferred t.linked t.small v r named.0 named.1 (λ z. ne (head ∙ z)))
+
+  pub head_fits : (a : ℕ) → a ≡ u → (u ≡ t.size → ⊥) → a < 4096
+  head_fits a e ne = let o = head_of ne in omega (arith, o.0, t.small)
+
+  pub none-of : u ≡ t.size → (k : ℕ) → same (Record v r) (get_or (rows_of t) k Nobody) ≡ false
+  none-of e = none-own t.size (rows_of t) t.next (same (Record v r)) _ (t.linked.records v r named.0 named.1) (sym head ∙ e)
 
 -- a record's units are deferred one by one
 pub record Deferring (v r k : ℕ) (t₀ t : Table) : Type 0 where
-  pub tabled : Tabled t
   pub rows : map (defer v r) (rows_of t) ≡ map (defer v r) (rows_of t₀)
   pub many : k + count (Record v r) (rows_of t) ≡ count (Record v r) (rows_of t₀)
   pub sized : t.size ≡ t₀.size
 
-pub deferring_more : (v r k : ℕ) (t₀ t t' : Table) → Deferring v r k t₀ t → v < 64 → r < 64 → (get_or t.first (v * 64 + r) 0 ≡ t.size → ⊥) → t'.size ≡ t.size →
-    t'.holders ≡ set t.holders (get_or t.first (v * 64 + r) 0) (Deferred v) → t'.next ≡ set t.next (get_or t.first (v * 64 + r) 0) t.deferred →
-    t'.first ≡ set t.first (v * 64 + r) (get_or t.next (get_or t.first (v * 64 + r) 0) 0) → t'.deferred ≡ get_or t.first (v * 64 + r) 0 →
+pub deferring_more : (v r k u : ℕ) (t₀ t t' : Table) → Deferring v r k t₀ t → Shifted v r t t' (Some u) → t'.size ≡ t.size →
     Deferring v r (k + 1) t₀ t' × (count (Record v r) (rows_of t') + 1 ≡ count (Record v r) (rows_of t))
-deferring_more v r k t₀ t t' w lv lr ne es eh el ef ed =
-    let u = get_or t.first (v * 64 + r) 0 in
-    let s = shifted t t' w.tabled es v r lv lr ne eh el ef ed in
-    let o = head_of t v r w.tabled lv lr ne in
-    let inside : u < length (rows_of t) = omega (arith, w.tabled.linked.long, o.0) in
-    let becomes : defer v r (get_or (rows_of t) u Nobody) ≡ Deferred v = ap (defer v r) o.1 ∙ cond-true _ (Deferred v) (Record v r) (same_self v r) in
-    let was : same (Record v r) (get_or (rows_of t) u Nobody) ≡ true = ap (same (Record v r)) o.1 ∙ same_self v r in
+deferring_more v r k u t₀ t t' w s es =
+    let inside : u < length (rows_of t) = omega (arith, t.linked.long, s.0) in
+    let becomes : defer v r (get_or (rows_of t) u Nobody) ≡ Deferred v = ap (defer v r) s.1 ∙ cond-true _ (Deferred v) (Record v r) (same_self v r) in
+    let was : same (Record v r) (get_or (rows_of t) u Nobody) ≡ true = ap (same (Record v r)) s.1 ∙ same_self v r in
     let m = moved-one (defer v r) (same (Record v r)) (rows_of t) u (Deferred v) Nobody inside (sym becomes) was refl in
-    let c : count (Record v r) (rows_of t') + 1 ≡ count (Record v r) (rows_of t) = ap (λ (l : List Holder). count (Record v r) l + 1) s.1 ∙ m.1 in (
+    let c : count (Record v r) (rows_of t') + 1 ≡ count (Record v r) (rows_of t) = ap (λ (l : List Holder). count (Record v r) l + 1) s.2 ∙ m.1 in (
       record {
-        tabled = s.0;
-        rows = ap (map (defer v r)) s.1 ∙ m.0 ∙ w.rows;
+        rows = ap (map (defer v r)) s.2 ∙ m.0 ∙ w.rows;
         many = omega (arith, w.many);
         sized = es ∙ w.sized;
       },
@@ -111,11 +92,14 @@ deferring_more v r k t₀ t t' w lv lr ne es eh el ef ed =
 undeferred : (v r : ℕ) (h : Holder) → same (Record v r) h ≡ false → defer v r h ≡ h
 undeferred v r h e = cond-false (same (Record v r) h) (Deferred v) h e
 
-pub deferring_end : (v r k : ℕ) (t₀ t : Table) → Deferring v r k t₀ t → v < 64 → r < 64 → get_or t.first (v * 64 + r) 0 ≡ t.size →
-    (rows_of t ≡ map (defer v r) (rows_of t₀)) × (k ≡ count (Record v r) (rows_of t₀))
-deferring_end v r k t₀ t w lv lr e =
-    let m = moved_none (defer v r) (same (Record v r)) Nobody (undeferred v r) (rows_of t) (none-own t.size (rows_of t) t.next (same (Record v r)) _ (w.tabled.linked.records v r lv lr) e) in
-    (sym m.0 ∙ w.rows, omega (arith, w.many, m.1))
+pub deferring_end : (v r w s k : ℕ) (t₀ t t' : Table) → w ≡ v → s ≡ r → Deferring w s k t₀ t → Shifted w s t t' None →
+    (rows_of t' ≡ map (defer v r) (rows_of t₀)) × (k ≡ count (Record v r) (rows_of t₀)) × (t'.size ≡ t₀.size)
+deferring_end v r w s k t₀ t t' ev er d end =
+    let m = moved_none (defer w s) (same (Record w s)) Nobody (undeferred w s) (rows_of t) end.0 in
+    let P : ℕ → Type 0 = λ x. (rows_of t' ≡ map (defer x s) (rows_of t₀)) × (k ≡ count (Record x s) (rows_of t₀)) in
+    let Q : ℕ → Type 0 = λ x. (rows_of t' ≡ map (defer v x) (rows_of t₀)) × (k ≡ count (Record v x) (rows_of t₀)) in
+    let it = subst Q er (subst P ev (ap rows_of end.1 ∙ sym m.0 ∙ d.rows, omega (arith, d.many, m.1))) in
+    (it.0, it.1, ap (λ (x : Table). x.size) end.1 ∙ d.sized)
 
 -- no unit is one of a record that the table has no place for
 unnamed : (v r : ℕ) (h : Holder) → Named h → (v < 64 → r < 64 → ⊥) → same (Record v r) h ≡ false
@@ -125,10 +109,10 @@ unnamed v r h n f =
       | inr e ↦ e
     ]
 
-pub deferring_none : (v r : ℕ) (t : Table) → Tabled t → (v < 64 → r < 64 → ⊥) → (rows_of t ≡ map (defer v r) (rows_of t)) × (0 ≡ count (Record v r) (rows_of t))
-deferring_none v r t w f =
-    let m = moved_none (defer v r) (same (Record v r)) Nobody (undeferred v r) (rows_of t) (λ u. unnamed v r (get_or (rows_of t) u Nobody) (w.linked.named u) f) in
+pub deferring_none : (v r : ℕ) (t : Table) → (v < 64 → r < 64 → ⊥) → (rows_of t ≡ map (defer v r) (rows_of t)) × (0 ≡ count (Record v r) (rows_of t))
+deferring_none v r t f =
+    let m = moved_none (defer v r) (same (Record v r)) Nobody (undeferred v r) (rows_of t) (λ u. unnamed v r (get_or (rows_of t) u Nobody) (t.linked.named u) f) in
     (sym m.0, sym m.1)
 
-pub few-rows : (p : Holder → Bool) (t : Table) → Tabled t → count_by p (rows_of t) ≤ 4096
-few-rows p t w = omega (arith, count_by-le-length p (rows_of t), w.linked.long, w.small)
+pub few-rows : (p : Holder → Bool) (t : Table) → count_by p (rows_of t) ≤ 4096
+few-rows p t = omega (arith, count_by-le-length p (rows_of t), t.linked.long, t.small)

@@ -4,6 +4,7 @@ use Rattle.std.proofs.lemmas.List.FromFn.{length-map-range_with_len, get_or-map-
 use Rattle.std.proofs.lemmas.List.{length-set, get_or-set_same, get_or-set_other, ext_get_or}
 use Rattle.std.proofs.lemmas.List.Sums.{sum_by-set, count_by-le-length}
 use Rattle.std.proofs.lemmas.Bool.{cases_eq, cases_lt, true≢false, cond-true, cond-false, and_from, and_left, and_right, lt-ltb, le-ltb, le-leb, lt-leb}
+use Rattle.pool.specs.declared.allocator.Allocator.{Ghosts}
 use Rattle.pool.specs.declared.allocator.AllocatorFault.{AllocatorFault}
 use Rattle.pool.specs.Units.{outs, Took}
 use Rattle.pool.proofs.Outs.{took-length, outs-taken, outs-all}
@@ -12,8 +13,8 @@ use Rattle.rules.specs.declared.state.Holder.{Holder}
 use Rattle.rules.specs.declared.state.Holder.TheVariants.{Nobody, Record, Deferred}
 use Rattle.marks.specs.declared.fault.MarksFault.TheVariants.{NoSuchRecord, AllOut}
 use Rattle.marks.specs.declared.marks.Marks.{Marks}
-use Rattle.marks.specs.Linked.{Tabled}
-use Rattle.marks.specs.Sound.{Sound, TookFor, Grew, take_answer, pool_of, holders_of, size_of}
+use Rattle.marks.specs.Held.{Held}
+use Rattle.marks.specs.Sound.{TookFor, Grew, take_answer, pool_of, holders_of, size_of}
 
 pub nobody : (h : Holder) → is_held h ≡ false → h ≡ Nobody
 nobody Nobody e = refl
@@ -99,56 +100,51 @@ module _ (h : Holder) (n u : ℕ) (us vs ws : List Bool) (hs ks ls : List Holder
       omega (arith, g p z, cond_more (p h) n)
 
 -- one unit has gone out, to the record
-module _ {A : Type 0} (U : A → List Bool) (W : A → Type 0) (m m' : Marks A) (u : ℕ) (h : Holder) (s : Sound U W m) (t : Took (U (pool_of m)) (U (pool_of m')) (Ok u)) where
-  pub free-row : get_or (holders_of m) u Nobody ≡ Nobody
-  free-row = nobody (get_or (holders_of m) u Nobody) (sym (s.held u) ∙ t.1)
+module _ (us vs : List Bool) (hs : List Holder) (u : ℕ) (held : Held us hs) (t : Took us vs (Ok u)) where
+  pub free-row : get_or hs u Nobody ≡ Nobody
+  free-row = nobody (get_or hs u Nobody) (sym (held u) ∙ t.1)
 
-  pub below : u < size_of m
-  below = omega (arith, t.0, s.sized)
+  pub took-held : (ks : List Holder) (h : Holder) → is_held h ≡ true → length us ≡ length hs → ks ≡ set hs u h → Held vs ks
+  took-held ks h is long e =
+      let l : u < length hs = omega (arith, t.0, long) in
+      λ k.
+      ap (λ (x : List Bool). get_or x k false) t.2
+      ∙ elim (cases_eq k u) as (λ _. get_or (set us u true) k false ≡ is_held (get_or (set hs u h) k Nobody)) [
+        | inl q ↦
+            ap (λ (j : ℕ). get_or (set us u true) j false) q ∙ get_or-set_same us u true false t.0
+            ∙ sym (ap (λ (j : ℕ). is_held (get_or (set hs u h) j Nobody)) q ∙ ap is_held (get_or-set_same hs u h Nobody l) ∙ is)
+        | inr ne ↦ get_or-set_other us u k true false ne ∙ held k ∙ ap is_held (sym (get_or-set_other hs u k h Nobody ne))
+      ]
+      ∙ ap (λ (x : List Holder). is_held (get_or x k Nobody)) (sym e)
 
-  pub took-sound : is_held h ≡ true → W (pool_of m') → m'.out ≡ m.out + 1 → Tabled m'.table → holders_of m' ≡ set (holders_of m) u h → size_of m' ≡ size_of m → Sound U W m'
-  took-sound held w eo tabled eh es =
-      let us = U (pool_of m) in
-      let hs = holders_of m in
-      let l : u < length hs = omega (arith, t.0, s.sized, s.long) in
-      let long : length (U (pool_of m')) ≡ length us = took-length us (U (pool_of m')) (Ok u) t in
-      record {
-        wellmade = w;
-        sized = long ∙ s.sized ∙ sym es;
-        long = ap length eh ∙ length-set hs u h ∙ s.long ∙ sym es;
-        held = λ k.
-            ap (λ (x : List Bool). get_or x k false) t.2
-            ∙ elim (cases_eq k u) as (λ _. get_or (set us u true) k false ≡ is_held (get_or (set hs u h) k Nobody)) [
-              | inl q ↦
-                  ap (λ (j : ℕ). get_or (set us u true) j false) q ∙ get_or-set_same us u true false t.0
-                  ∙ sym (ap (λ (j : ℕ). is_held (get_or (set hs u h) j Nobody)) q ∙ ap is_held (get_or-set_same hs u h Nobody l) ∙ held)
-              | inr ne ↦ get_or-set_other us u k true false ne ∙ s.held k ∙ ap is_held (sym (get_or-set_other hs u k h Nobody ne))
-            ]
-            ∙ ap (λ (x : List Holder). is_held (get_or x k Nobody)) (sym eh);
-        counted = omega (arith, eo, s.counted, ap outs t.2, outs-taken us u t.0 t.1);
-        tabled = tabled;
-      }
+  pub took-counted : (n : ℕ) → n ≡ outs us → n + 1 ≡ outs vs
+  took-counted n e = omega (arith, ap outs t.2, outs-taken us u t.0 t.1)
+
+-- as many units as holders
+pub matching : {A : Type 0} {G : Ghosts A} (m : Marks A G) → length (G.units (pool_of m)) ≡ length (holders_of m)
+matching m = m.sized ∙ sym m.table.linked.long
 
 -- what the loop has done
-pub record Taking {A : Type 0} (U : A → List Bool) (v r i : ℕ) (m₀ m : Marks A) : Type 0 where
-  pub took : TookFor (Record v r) i (U (pool_of m₀)) (U (pool_of m)) (holders_of m₀) (holders_of m)
+pub record Taking {A : Type 0} {G : Ghosts A} (v r i : ℕ) (m₀ m : Marks A G) : Type 0 where
+  pub took : TookFor (Record v r) i (G.units (pool_of m₀)) (G.units (pool_of m)) (holders_of m₀) (holders_of m)
   pub grew : Grew (Record v r) i (holders_of m₀) (holders_of m)
   pub sized : size_of m ≡ size_of m₀
+  pub lent : G.lent (pool_of m) ≡ G.lent (pool_of m₀)
 
-pub taking-start : {A : Type 0} (U : A → List Bool) (v r : ℕ) (m : Marks A) → Taking U v r 0 m m
-taking-start U v r m =
-    let t = took-none (Record v r) (U (pool_of m)) (holders_of m) in
-    record { took = t.0; grew = t.1; sized = refl }
+pub taking-start : {A : Type 0} {G : Ghosts A} (v r : ℕ) (m : Marks A G) → Taking v r 0 m m
+taking-start {G = G} v r m =
+    let t = took-none (Record v r) (G.units (pool_of m)) (holders_of m) in
+    record { took = t.0; grew = t.1; sized = refl; lent = refl }
 
-pub taking-more : {A : Type 0} (U : A → List Bool) (W : A → Type 0) (v r i u : ℕ) (m₀ m m' : Marks A) → Sound U W m₀ → Sound U W m → Taking U v r i m₀ m →
-    Took (U (pool_of m)) (U (pool_of m')) (Ok u) → holders_of m' ≡ set (holders_of m) u (Record v r) → size_of m' ≡ size_of m → Taking U v r (i + 1) m₀ m'
-taking-more U W v r i u m₀ m m' s₀ s w t e es =
-    let long : length (U (pool_of m₀)) ≡ length (holders_of m₀) = s₀.sized ∙ sym s₀.long in
-    let x : u < length (holders_of m) = omega (arith, t.0, s.sized, s.long) in
+pub taking-more : {A : Type 0} {G : Ghosts A} (v r i u : ℕ) (m₀ m m' : Marks A G) → Taking v r i m₀ m →
+    Took (G.units (pool_of m)) (G.units (pool_of m')) (Ok u) → holders_of m' ≡ set (holders_of m) u (Record v r) → size_of m' ≡ size_of m → G.lent (pool_of m') ≡ G.lent (pool_of m) → Taking v r (i + 1) m₀ m'
+taking-more {G = G} v r i u m₀ m m' w t e es el =
+    let x : u < length (holders_of m) = omega (arith, t.0, matching m) in
     record {
-      took = took_more (Record v r) i u (U (pool_of m₀)) (U (pool_of m)) (U (pool_of m')) (holders_of m₀) (holders_of m) (holders_of m') w.took long t e;
-      grew = grew-more (Record v r) i u (U (pool_of m₀)) (U (pool_of m)) (U (pool_of m')) (holders_of m₀) (holders_of m) (holders_of m') w.took long t e w.grew (free-row U W m m' u (Record v r) s t) x;
+      took = took_more (Record v r) i u (G.units (pool_of m₀)) (G.units (pool_of m)) (G.units (pool_of m')) (holders_of m₀) (holders_of m) (holders_of m') w.took (matching m₀) t e;
+      grew = grew-more (Record v r) i u (G.units (pool_of m₀)) (G.units (pool_of m)) (G.units (pool_of m')) (holders_of m₀) (holders_of m) (holders_of m') w.took (matching m₀) t e w.grew (free-row (G.units (pool_of m)) (G.units (pool_of m')) (holders_of m) u m.held t) x;
       sized = es ∙ w.sized;
+      lent = el ∙ w.lent;
     }
 
 -- where a unit is in, a refusal is false

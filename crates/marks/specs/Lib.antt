@@ -1,3 +1,6 @@
 pub mod Faults
+pub mod Held
 pub mod Linked
+pub mod Once
 pub mod Sound
+pub mod Tabled

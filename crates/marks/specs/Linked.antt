@@ -1,10 +1,9 @@
 -- The units of one holder: the entries of the table go from its head through exactly these units, each once.
-use Rattle.std.specs.Prelude.{◌≡◌, ℕ, ◌+◌, ◌*◌, ◌<◌, ◌≤◌, Bool, true, List, length, take, slice_index, slice_index_or}
+use Rattle.std.specs.Prelude.{◌≡◌, ℕ, ◌+◌, ◌*◌, ◌<◌, Bool, true, List, length, slice_index, slice_index_or}
 use Rattle.pool.specs.Links.{Among, Threads}
 use Rattle.rules.specs.Holders.{same, is_deferred}
 use Rattle.rules.specs.declared.state.Holder.{Holder}
 use Rattle.rules.specs.declared.state.Holder.TheVariants.{Nobody, Record, Deferred}
-use Rattle.marks.specs.declared.table.Table.{Table}
 
 -- a holder that the table has a place for: 64 records of 64 volumes
 abbrev pub Named : Holder → Type 0
@@ -27,13 +26,3 @@ pub record Linked (n : ℕ) (hs : List Holder) (next first : List ℕ) (d : ℕ)
   pub named : (u : ℕ) → Named (slice_index_or hs u Nobody)
   pub records : (v r : ℕ) → v < 64 → r < 64 → Chained n hs next (slice_index first (v * 64 + r)) (same (Record v r))
   pub deferred : Chained n hs next d is_deferred
-
--- the holder of each unit
-abbrev pub rows_of : Table → List Holder
-rows_of t = take t.size t.holders
-
--- a table that is well made
-pub record Tabled (t : Table) : Type 0 where
-  pub small : t.size ≤ 4096
-  pub whole : length t.holders ≡ 4096
-  pub linked : Linked t.size (rows_of t) t.next t.first t.deferred

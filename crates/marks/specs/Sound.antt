@@ -1,34 +1,35 @@
 -- What the marks of a pool mean, when they are sound, and what each call does to them.
-use Rattle.std.specs.Prelude.{◌≡◌, ℕ, ◌+◌, Bool, true, false, cond, not, ◌&&◌, List, map, length, Ok, Err, count_by, Result, nat_le, nat_lt, slice_index_or}
+use Rattle.std.specs.Prelude.{◌≡◌, ℕ, ◌+◌, Bool, true, false, cond, not, ◌&&◌, List, map, length, Some, None, Ok, Err, count_by, Option, Result, nat_le, nat_lt, slice_index_or, slice_set}
 use Rattle.std.specs.List.{range_with_len}
 use Rattle.pool.specs.Units.{outs}
-use Rattle.rules.specs.Holders.{is_held, is_deferred, handed}
+use Rattle.rules.specs.Holders.{is_deferred, handed}
 use Rattle.rules.specs.declared.state.Holder.{Holder}
 use Rattle.rules.specs.declared.state.Holder.TheVariants.{Nobody, Record}
 use Rattle.marks.specs.declared.fault.MarksFault.{MarksFault}
 use Rattle.marks.specs.declared.fault.MarksFault.TheVariants.{NoSuchRecord, AllOut}
 use Rattle.marks.specs.declared.marks.Marks.{Marks}
-use Rattle.marks.specs.Linked.{Tabled, rows_of}
+use Rattle.marks.specs.Held.{Held}
+use Rattle.marks.specs.Tabled.{Tabled, rows_of}
 
-module _ {A : Type 0} where
+module _ {A : Type 0} {g : _} where
   -- the allocator
-  abbrev pub pool_of : Marks A → A
+  abbrev pub pool_of : Marks A g → A
   pool_of m = m.pool
 
   -- the holder of each unit
-  abbrev pub holders_of : Marks A → List Holder
+  abbrev pub holders_of : Marks A g → List Holder
   holders_of m = rows_of m.table
 
   -- how many units there are
-  abbrev pub size_of : Marks A → ℕ
+  abbrev pub size_of : Marks A g → ℕ
   size_of m = m.table.size
 
 -- Over an allocator whose units are U and that is well made by W: a unit is out exactly where it has a holder.
-pub record Sound {A : Type 0} (U : A → List Bool) (W : A → Type 0) (m : Marks A) : Type 0 where
+pub record Sound {A : Type 0} {g : _} (U : A → List Bool) (W : A → Type 0) (m : Marks A g) : Type 0 where
   pub wellmade : W (pool_of m)
   pub sized : length (U (pool_of m)) ≡ size_of m
   pub long : length (holders_of m) ≡ size_of m
-  pub held : (u : ℕ) → slice_index_or (U (pool_of m)) u false ≡ is_held (slice_index_or (holders_of m) u Nobody)
+  pub held : Held (U (pool_of m)) (holders_of m)
   pub counted : m.out ≡ outs (U (pool_of m))
   pub tabled : Tabled m.table
 
@@ -51,7 +52,13 @@ returned us hs = map (λ u. slice_index_or us u false && not (is_deferred (slice
 abbrev pub take_answer : ℕ → ℕ → ℕ → List Bool → Result (Unit {0}) MarksFault
 take_answer v r n us = cond (nat_lt v 64 && nat_lt r 64) (cond (nat_le (outs us + n) (length us)) (Ok tt) (Err AllOut)) (Err (NoSuchRecord v r))
 
-module _ {A : Type 0} (U : A → List Bool) (v r n : ℕ) (m m' : Marks A) where
+module _ {A : Type 0} {g : _} (U : A → List Bool) (m m' : Marks A g) where
+  -- one deferred unit has come in, and is nobody's; or none was deferred, and nothing changes
+  abbrev pub GaveOne : Option ℕ → Type 0
+  GaveOne (Some u) = (is_deferred (slice_index_or (holders_of m) u Nobody) ≡ true) × (holders_of m' ≡ slice_set (holders_of m) u Nobody) × (U (pool_of m') ≡ slice_set (U (pool_of m)) u false)
+  GaveOne None = ((u : ℕ) → is_deferred (slice_index_or (holders_of m) u Nobody) ≡ false) × (holders_of m' ≡ holders_of m) × (pool_of m' ≡ pool_of m)
+
+module _ {A : Type 0} {g : _} (U : A → List Bool) (v r n : ℕ) (m m' : Marks A g) where
   -- what `take` does: the units are the record's, or nothing changes
   abbrev pub TakeEffect : Result (Unit {0}) MarksFault → Type 0
   TakeEffect (Ok _) = TookFor (Record v r) n (U (pool_of m)) (U (pool_of m')) (holders_of m) (holders_of m') × Grew (Record v r) n (holders_of m) (holders_of m')

@@ -3,4 +3,5 @@
 
 pub mod fault;
 pub mod marks;
+mod place;
 mod table;

@@ -1,8 +1,6 @@
 // Tests of the marks over a bitmap and a chain.
 #![tactic(auto)]
 
-ghost use Rattle.marks.specs.Sound.{Sound};
-
 #[cfg(test)]
 mod tests {
     use marks::fault::MarksFault;
@@ -14,33 +12,16 @@ mod tests {
     use std::process::Abort;
     use std::test::Fail;
 
-    fn is_of(holder: Holder, volume: u8, number: u8) -> bool {
-        match holder {
-            Holder::Record {
-                volume: v,
-                number: n,
-            } => v == volume && n == number,
-            Holder::Nobody | Holder::Deferred { .. } => false,
-        }
-    }
-
     // how many units a record has, by looking at each
-    fn units_of<A: Allocator>(marks: &Marks<A>, volume: u8, number: u8) -> u16
-        requires { Sound A.Allocator.units A.Allocator.wellmade marks.now }
-    {
-        let mut n = 0;
-        for unit in 0..marks.size() {
-            if is_of(marks.holder(unit), volume, number) {
-                n += 1;
-            }
-        }
-        n
+    fn units_of<A: Allocator>(marks: &Marks<A>, volume: u8, number: u8) -> usize {
+        let record = Holder::Record { volume, number };
+        (0..marks.size())
+            .filter(|unit| marks.holder(*unit) == record)
+            .count()
     }
 
     // seven units of nine go to three records; one record is deferred, and given back
-    fn round<A: Allocator>(rt: &impl Abort, marks: &mut Marks<A>) -> Result<(), Fail>
-        requires { Sound A.Allocator.units A.Allocator.wellmade marks.old }
-    {
+    fn round<A: Allocator>(rt: &impl Abort, marks: &mut Marks<A>) -> Result<(), Fail> {
         marks.take(1, 2, 3)?;
         marks.take(1, 3, 2)?;
         marks.take(63, 63, 2)?;

@@ -1,11 +1,11 @@
 use Rattle.rules.specs.Holders.{count}
 use Rattle.rules.specs.declared.state.Holder.TheVariants.{Record}
-use Rattle.marks.specs.Linked.{rows_of}
+use Rattle.marks.specs.Tabled.{rows_of}
 use Rattle.marks.proofs.Tables.{Deferring}
 use Rattle.marks.proofs.table.Table.defer.Given as goal
 
-abbrev pub invariant-loop-self : goal.invariant-loop-self
-invariant-loop-self l = Deferring l.volume l.number l.moved l.initial.self l.self
+abbrev pub invariant-loop-moved : goal.invariant-loop-moved
+invariant-loop-moved l = Deferring l.place.volume l.place.number l.moved l.initial.self l.self
 
-abbrev pub decreases-loop-self : goal.decreases-loop-self
-decreases-loop-self l = count (Record l.volume l.number) (rows_of l.self)
+abbrev pub decreases-loop-moved : goal.decreases-loop-moved
+decreases-loop-moved l = count (Record l.place.volume l.place.number) (rows_of l.self)

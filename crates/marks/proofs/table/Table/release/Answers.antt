@@ -1,23 +1,25 @@
-use Rattle.std.proofs.Common.{◌≡◌, ℕ, ◌<◌, true, get_or, set, sym, ap, ◌∙◌, subst, arith}
-use Rattle.rules.specs.Holders.{is_deferred}
+use Rattle.std.proofs.Common.{refl, ◌∙◌}
+use Rattle.std.proofs.lemmas.List.{length-set}
 use Rattle.rules.specs.declared.state.Holder.TheVariants.{Nobody}
-use Rattle.marks.specs.Linked.{rows_of}
-use Rattle.marks.proofs.Tables.{released, head_deferred}
+use Rattle.marks.proofs.Tables.{head_deferred, deferred_fits, none_deferred, rows-set, released}
 use Rattle.marks.proofs.table.Table.release.Goals as goal
 
-pub pop-requires : goal.pop-requires
-pop-requires c = let h = head_deferred c.args.self.now c.requires.tabled c.requires.some in omega (arith, h.0, c.requires.tabled.small)
+pub returns-then-unit-self-clause-released : goal.returns-then-unit-self-clause-released
+returns-then-unit-self-clause-released c = (none_deferred c.args.self.now c.if-unit-self.true, refl)
 
-pub returns : goal.returns
-returns c =
-    let t = c.args.self.now in
-    let e = c.pop.ensures in
-    let h = head_deferred t c.requires.tabled c.requires.some in
-    let m = released t _ c.requires.tabled e.sized c.requires.some e.holders e.next e.first e.deferred in
-    let P : ℕ → Type 0 = λ k. (k < t.size) × (is_deferred (get_or (rows_of t) k Nobody) ≡ true) in
-    record {
-      tabled = m.0;
-      unit = subst P (sym e.unit) h;
-      rows = m.1 ∙ ap (λ (k : ℕ). set (rows_of t) k Nobody) (sym e.unit);
-      sized = e.sized;
-    }
+pub bounds-self-at : goal.bounds-self-at
+bounds-self-at c = deferred_fits c.args.self.now c.from-at.result c.from-at.ensures c.if-unit-self.false
+
+pub bounds-self-at-2 : goal.bounds-self-at-2
+bounds-self-at-2 c = deferred_fits c.args.self.now c.from-at.result c.from-at.ensures c.if-unit-self.false
+
+pub invariant_of-self-clause-whole : goal.invariant_of-self-clause-whole
+invariant_of-self-clause-whole c = length-set c.args.self.now.holders _ _ ∙ c.args.self.now.whole
+
+pub invariant_of-self-clause-linked : goal.invariant_of-self-clause-linked
+invariant_of-self-clause-linked c = released c.args.self.now c.from-at.result c.from-at.ensures c.if-unit-self.false
+
+pub returns-clause-released : goal.returns-clause-released
+returns-clause-released c =
+    let h = head_deferred c.args.self.now c.if-unit-self.false in
+    (h.0, h.1, rows-set c.args.self.now c.from-at.result _ Nobody c.from-at.ensures)
