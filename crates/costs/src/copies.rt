@@ -5,7 +5,7 @@ ghost use Rattle.costs.specs.Bounds.{copies_bounded};
 ghost use Rattle.costs.specs.Costs.{largest, CopiesFit, copies_cost};
 
 use super::fault::CostFault;
-use super::policy::{CostPolicy, RECORD_SECTORS};
+use super::policy::{CostPolicy, RECORD_SECTORS, sectors_of};
 
 /// One to three copies of every sector. No other number can be had.
 #[derive(Clone, Copy, Debug)]
@@ -19,7 +19,7 @@ impl Copies {
     pub fn check(n: u8) -> Result<(), CostFault>
         ensures { Checked (CopiesFit n) result }
     {
-        if 1 <= n && n <= 3 {
+        if (1..=3).contains(&n) {
             Ok(())
         } else {
             Err(CostFault::FiguresOutOfRange)
@@ -43,14 +43,10 @@ impl CostPolicy for Copies {
     ghost bounded = { λ policy. copies_bounded policy.n policy.fit };
 
     fn cost(&self, size: u8) -> Result<u16, CostFault> {
-        if size <= RECORD_SECTORS {
-            Ok(size as u16 * self.n as u16)
-        } else {
-            Err(CostFault::SizeTooLarge(size))
-        }
+        Ok(sectors_of(size)? * u16::from(self.n))
     }
 
     fn worst(&self) -> u16 {
-        RECORD_SECTORS as u16 * self.n as u16
+        u16::from(RECORD_SECTORS) * u16::from(self.n)
     }
 }

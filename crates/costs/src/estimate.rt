@@ -7,5 +7,5 @@ use super::policy::CostPolicy;
 pub fn estimate<P: CostPolicy>(policy: &P, writes: u8) -> u16
     ensures { result ≡ writes * P.CostPolicy.worst policy.now }
 {
-    writes as u16 * policy.worst()
+    u16::from(writes) * policy.worst()
 }

@@ -5,7 +5,7 @@ ghost use Rattle.costs.specs.Bounds.{parity_bounded};
 ghost use Rattle.costs.specs.Costs.{largest, ParityFit, parity_cost, ceiling_div, rounded_up};
 
 use super::fault::CostFault;
-use super::policy::{CostPolicy, RECORD_SECTORS};
+use super::policy::{CostPolicy, RECORD_SECTORS, sectors_of};
 
 /// One to three parity sectors (`p`) in each row over `w` disks, more than `p` and at most 16. No other figures can be had.
 #[derive(Clone, Copy, Debug)]
@@ -20,7 +20,7 @@ impl Parity {
     pub fn check(p: u8, w: u8) -> Result<(), CostFault>
         ensures { Checked (ParityFit p w) result }
     {
-        if 1 <= p && p <= 3 && p < w && w <= 16 {
+        if (1..=3).contains(&p) && p < w && w <= 16 {
             Ok(())
         } else {
             Err(CostFault::FiguresOutOfRange)
@@ -41,27 +41,12 @@ impl Parity {
         requires { size ≤ largest }
         ensures { result ≡ parity_cost self.now.p self.now.w size }
     {
-        let p = self.p as u16;
-        let rows = ceiling_div(size, self.w as u16 - p);
+        let p = u16::from(self.p);
+        let data = u16::from(self.w) - p;
+        let rows = size.div_ceil(data);
         let sectors = size + parity_sectors(p, rows);
-        round_up(sectors, p + 1)
+        sectors.next_multiple_of(p + 1)
     }
-}
-
-// `a` divided by `b`, rounded up.
-fn ceiling_div(a: u16, b: u16) -> u16
-    requires { (1 ≤ b) × (a + b < 2 ^ 16) }
-    ensures { result ≡ ceiling_div a b }
-{
-    (a + (b - 1)) / b
-}
-
-// The least multiple of `m` that is not below `a`.
-fn round_up(a: u16, m: u16) -> u16
-    requires { (1 ≤ m) × (a + m < 2 ^ 16) }
-    ensures { result ≡ rounded_up a m }
-{
-    ceiling_div(a, m) * m
 }
 
 // `p` parity sectors in each of `rows` rows.
@@ -81,14 +66,10 @@ impl CostPolicy for Parity {
     ghost bounded = { λ policy. parity_bounded policy.p policy.w policy.fit };
 
     fn cost(&self, size: u8) -> Result<u16, CostFault> {
-        if size <= RECORD_SECTORS {
-            Ok(self.units(size as u16))
-        } else {
-            Err(CostFault::SizeTooLarge(size))
-        }
+        Ok(self.units(sectors_of(size)?))
     }
 
     fn worst(&self) -> u16 {
-        self.units(RECORD_SECTORS as u16)
+        self.units(u16::from(RECORD_SECTORS))
     }
 }

@@ -8,6 +8,17 @@ use super::fault::CostFault;
 /// The sectors of a record, and so the largest size of a write.
 pub const RECORD_SECTORS: u8 = 16;
 
+/// The sectors of a write. A size above `RECORD_SECTORS` is refused.
+pub(crate) fn sectors_of(size: u8) -> Result<u16, CostFault>
+    ensures { Asked (λ sectors. sectors) size result }
+{
+    if size <= RECORD_SECTORS {
+        Ok(u16::from(size))
+    } else {
+        Err(CostFault::SizeTooLarge(size))
+    }
+}
+
 /// A cost in units for each size of a write, 0 to 16 sectors, and one worst cost. Asking changes nothing.
 pub trait CostPolicy {
     /// The cost in units of a write of so many sectors.

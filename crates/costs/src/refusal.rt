@@ -6,17 +6,17 @@ use super::fault::CostFault;
 use super::policy::RECORD_SECTORS;
 use orders::answer::{Layer, Refusal};
 
-impl CostFault {
-    /// This fault in numbers.
-    pub fn refusal(&self) -> Refusal
-        ensures { result ≡ refusal_of self.now }
-    {
-        match *self {
+/// The fault in numbers.
+impl From<CostFault> for Refusal {
+    ghost from_gives = { λ fault refusal. refusal ≡ refusal_of fault };
+
+    fn from(fault: CostFault) -> Refusal {
+        match fault {
             CostFault::SizeTooLarge(size) => Refusal {
                 number: 10,
                 layer: Layer::Transactions,
                 item: size,
-                amount: RECORD_SECTORS as u16,
+                amount: u16::from(RECORD_SECTORS),
             },
             CostFault::FiguresOutOfRange => Refusal {
                 number: 23,

@@ -48,5 +48,5 @@ fn refusals(rt: HostRuntime) {
         item: 17,
         amount: 16,
     };
-    assert_eq!(rt; CostFault::SizeTooLarge(17).refusal(), numbers);
+    assert_eq!(rt; Refusal::from(CostFault::SizeTooLarge(17)), numbers);
 }

@@ -7,6 +7,7 @@ use super::figure::{Outcome, Policy, Question};
 use costs::copies::Copies;
 use costs::parity::Parity;
 use costs::policy::CostPolicy;
+use orders::answer::Refusal;
 
 // Asks any policy.
 fn ask<P: CostPolicy>(policy: &P, question: Question) -> Outcome
@@ -24,7 +25,7 @@ fn ask_cost<P: CostPolicy>(policy: &P, size: u8) -> Outcome
 {
     match policy.cost(size) {
         Ok(units) => Outcome::Units(units),
-        Err(fault) => Outcome::Refused(fault.refusal()),
+        Err(fault) => Outcome::Refused(Refusal::from(fault)),
     }
 }
 
@@ -33,7 +34,7 @@ fn answer_copies(n: u8, question: Question) -> Outcome
 {
     match Copies::check(n) {
         Ok(()) => ask(&Copies::make(n), question),
-        Err(fault) => Outcome::Refused(fault.refusal()),
+        Err(fault) => Outcome::Refused(Refusal::from(fault)),
     }
 }
 
@@ -42,7 +43,7 @@ fn answer_parity(p: u8, w: u8, question: Question) -> Outcome
 {
     match Parity::check(p, w) {
         Ok(()) => ask(&Parity::make(p, w), question),
-        Err(fault) => Outcome::Refused(fault.refusal()),
+        Err(fault) => Outcome::Refused(Refusal::from(fault)),
     }
 }
 

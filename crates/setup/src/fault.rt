@@ -5,6 +5,7 @@ ghost use Rattle.setup.specs.declared.fault.SetupFault.TheVariants.{Pool as of_p
 
 use costs::fault::CostFault;
 use ledger::fault::MakeFault;
+use orders::answer::Refusal;
 use pool::allocator::AllocatorFault;
 
 /// Why no ledger can be made of these figures and this memory.
@@ -26,7 +27,7 @@ impl SetupFault {
         match self {
             SetupFault::Pool(fault) => fault.number(),
             SetupFault::Ledger(fault) => fault.number(),
-            SetupFault::Policy(fault) => fault.refusal().number,
+            SetupFault::Policy(fault) => Refusal::from(fault).number,
         }
     }
 }
