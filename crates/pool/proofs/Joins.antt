@@ -1,10 +1,15 @@
 -- Two allocators as one: what is done to the units of one is done to those of both.
-use Rattle.std.proofs.Common.{◌≡◌, ℕ, ◌+◌, ◌-◌, ◌<◌, Bool, true, false, List, ◌++◌, length, get_or, set, Ok, Err, Result, sym, refl, ap, ◌∙◌, inl, inr, arith}
+use Rattle.std.proofs.Common.{◌≡◌, ℕ, ◌+◌, ◌-◌, ◌<◌, Bool, true, false, List, ◌++◌, length, get_or, set, Ok, Err, Result, is_ok, MatchResult, sym, refl, ap, ◌∙◌, subst, inl, inr, arith}
 use Rattle.std.proofs.lemmas.List.{length-append, get_or_append_left, get_or-append_right, set-append_left, set-append_right}
-use Rattle.std.proofs.lemmas.Bool.{cases_lt}
+use Rattle.std.proofs.lemmas.Bool.{cases_lt, true≢false}
 use Rattle.pool.specs.declared.allocator.AllocatorFault.{AllocatorFault}
 use Rattle.pool.specs.declared.allocator.AllocatorFault.TheVariants.{NotOut}
+use Rattle.pool.specs.declared.allocator.Allocator.{Ghosts}
 use Rattle.pool.specs.declared.joined.Joined.{Joined}
+use Rattle.pool.specs.Pairs.{Few}
+use Rattle.std.specs.Coded.{le_prop}
+use mathlib.Core.HLevel.{Σ_prop_path}
+use mathlib.Core.Path.{Σ_path}
 use Rattle.pool.specs.Faults.{ground}
 use Rattle.pool.specs.Units.{Took, Gave, Kept}
 
@@ -47,29 +52,39 @@ gave_first us vs ws n u v (Err f) e h q t =
     let b : u < length us = omega arith in
     (t.0 ∙ ap (λ (k : ℕ). ground (NotOut k)) q, get_or_append_left us ws false u b ∙ ap (λ (k : ℕ). get_or us k false) (sym q) ∙ t.1, ap (λ (l : List Bool). l ++ ws) t.2)
 
-pub gave_second : (us ws xs : List Bool) (n u v : ℕ) → n ≡ length us → n + v ≡ u → Gave ws xs v (Ok tt) → Gave (us ++ ws) (us ++ xs) u (Ok tt)
-gave_second us ws xs n u v e q t =
-    let k : u - n ≡ v = omega arith in (
+pub gave_second : (us ws xs : List Bool) (n u v : ℕ) (r s : Result (Unit {0}) AllocatorFault) → n ≡ length us → n + v ≡ u → Gave ws xs v r → MatchResult r (λ _. s ≡ Ok tt) (λ _. s ≡ Err (NotOut u)) → Gave (us ++ ws) (us ++ xs) u s
+gave_second us ws xs n u v (Ok _) s e q t m =
+    let P : Result (Unit {0}) AllocatorFault → Type 0 = Gave (us ++ ws) (us ++ xs) u in
+    let k : u - n ≡ v = omega arith in
+    subst P (sym m) (
       get_or-append_right us ws n u false (sym e) (omega arith) ∙ ap (λ (j : ℕ). get_or ws j false) k ∙ t.0,
       ap (λ (l : List Bool). us ++ l) (t.1 ∙ ap (λ (j : ℕ). set ws j false) (sym k)) ∙ sym (set-append_right us ws n u false (sym e) (omega arith)),
     )
-
-pub gave_neither : (us ws xs : List Bool) (n u v : ℕ) (f : AllocatorFault) → n ≡ length us → n + v ≡ u → Gave ws xs v (Err f) → Gave (us ++ ws) (us ++ xs) u (Err (NotOut u))
-gave_neither us ws xs n u v f e q t =
+gave_second us ws xs n u v (Err f) s e q t m =
+    let P : Result (Unit {0}) AllocatorFault → Type 0 = Gave (us ++ ws) (us ++ xs) u in
     let k : u - n ≡ v = omega arith in
-    (refl, get_or-append_right us ws n u false (sym e) (omega arith) ∙ ap (λ (j : ℕ). get_or ws j false) k ∙ t.1, ap (λ (l : List Bool). us ++ l) t.2)
+    subst P (sym m) (refl, get_or-append_right us ws n u false (sym e) (omega arith) ∙ ap (λ (j : ℕ). get_or ws j false) k ∙ t.1, ap (λ (l : List Bool). us ++ l) t.2)
 
 -- the pair itself is as it was where its two are
-module _ {A B : Type 0} where
-  abbrev pair : A → B → Joined A B
-  pair a b = record { first = a; second = b }
+module _ {A B : Type 0} {G : Ghosts A} {H : Ghosts B} where
+  pub pair-kept : (j k : Joined A B G H) → k.first ≡ j.first → k.second ≡ j.second → k ≡ j
+  pair-kept j k p q =
+      let F : A × B → Type 0 = λ x. Few (G.units x.0) (H.units x.1) in
+      ap (λ (x : (y : A × B) × F y). record { first = x.0.0; second = x.0.1; few = x.1 })
+      (Σ_prop_path {B = F} (λ x. le_prop) {u = ((k.first, k.second), k.few)} {v = ((j.first, j.second), j.few)} (Σ_path p q))
 
-  pub pair-kept : (j : Joined A B) (a : A) (b : B) → a ≡ j.first → b ≡ j.second → pair a b ≡ j
-  pair-kept j a b p q = ap (λ (x : A). pair x b) p ∙ ap (λ (y : B). pair j.first y) q
+  pub first-kept : (j k : Joined A B G H) (r : Result (Unit {0}) AllocatorFault) → Kept j.first k.first r → k.second ≡ j.second → Kept j k r
+  first-kept j k (Ok _) e q = tt
+  first-kept j k (Err f) e q = pair-kept j k e q
 
-  pub first-kept : (j : Joined A B) (a : A) (r : Result (Unit {0}) AllocatorFault) → Kept j.first a r → Kept j (pair a j.second) r
-  first-kept j a (Ok _) k = tt
-  first-kept j a (Err f) k = pair-kept j a j.second k refl
+  pub second-kept : (j k : Joined A B G H) (r s : Result (Unit {0}) AllocatorFault) → k.first ≡ j.first → Kept j.second k.second r → is_ok s ≡ is_ok r → Kept j k s
+  second-kept j k r (Ok _) p e m = tt
+  second-kept j k (Ok _) (Err f) p e m = absurd (true≢false (sym m))
+  second-kept j k (Err h) (Err f) p e m = pair-kept j k p e
+
+  pub neither-kept : (j k : Joined A B G H) (r : Result ℕ AllocatorFault) → k.first ≡ j.first → k.second ≡ j.second → Kept j k r
+  neither-kept j k (Ok _) p e = tt
+  neither-kept j k (Err f) p e = pair-kept j k p e
 
 -- the memory of the pair is that of both
 pub both_lent : (xs ys zs ws : List (ℕ × ℕ × List ℕ)) → xs ≡ ys → zs ≡ ws → xs ++ zs ≡ ys ++ ws

@@ -1,13 +1,11 @@
 -- An allocator is well made in one way only.
-use Rattle.std.specs.Prelude.{◌≡◌, ℕ, ◌<◌, true, List, [], ◌∷◌, ◌≢◌, slice_index, Bool}
+use Rattle.std.specs.Prelude.{◌≡◌, ℕ, ◌<◌, List, [], ◌∷◌, ◌≢◌, slice_index}
 use Rattle.std.proofs.Common.{sym, refl, ap, ◌∙◌, subst, inl, inr, arith}
 use Rattle.std.proofs.Props.{props}
 use mathlib.Core.HLevel.{×_prop, is_prop→PathP}
 use native.Mathlib.Nat.{ℕ_set}
-use native.Mathlib.Bridge.{le_prop}
 use Rattle.pool.specs.Links.{Apart, Among, Threads, Space, Linked}
-use Rattle.pool.specs.Marks.{Room, Mapped, bit_at}
-use Rattle.pool.specs.Pairs.{Few}
+use Rattle.pool.specs.Marks.{Mapped}
 
 pub apart_once : (u : ℕ) (xs : List ℕ) → IsProp (Apart u xs)
 apart_once u [] = hlevel props
@@ -55,16 +53,4 @@ linked_once ls n h x y =
     }
 
 pub mapped_once : (bs : List ℕ) (n h : ℕ) → IsProp (Mapped bs n h)
-mapped_once bs n h x y =
-    let room_once : IsProp (Room bs n) = hlevel props in
-    let below_once : IsProp ((k : ℕ) → k < h → bit_at bs k ≡ true) = hlevel props in
-    λ i. record {
-      room = room_once x.room y.room i;
-      within = le_prop x.within y.within i;
-      below = below_once x.below y.below i;
-    }
-
-pub joined_once : {P Q : Type 0} (us ws : List Bool) → IsProp P → IsProp Q → IsProp (P × Q × Few us ws)
-joined_once us ws p q s t =
-    let few_once : IsProp (Few us ws) = hlevel props in
-    λ i. (p s.0 t.0 i, q s.1 t.1 i, few_once s.2 t.2 i)
+mapped_once bs n h = hlevel props

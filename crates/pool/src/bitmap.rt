@@ -83,6 +83,7 @@ pub struct Bitmap<'a> {
     // every unit below it is out
     hint: u16,
     memory: &'a mut [u8],
+    ghost mapped: { Mapped memory.now size hint } by { mapped_once memory.now size hint },
 }
 
 impl<'a> Bitmap<'a> {
@@ -117,7 +118,6 @@ impl<'a> Bitmap<'a> {
 
     // the lowest unit that is in
     fn first_in(&self) -> Option<u16>
-        requires { Mapped self.now.memory.now self.now.size self.now.hint }
         ensures { MatchOption result ((k : ℕ) → k < self.now.size → bit_at self.now.memory.now k ≡ true) (λ u. (u < self.now.size) × (bit_at self.now.memory.now u ≡ false) × ((k : ℕ) → k < u → bit_at self.now.memory.now k ≡ true)) }
     {
         let end = (self.size as usize).div_ceil(8);
@@ -152,8 +152,6 @@ impl Allocator for Bitmap<'_> {
     /// Takes the lowest unit that is in. Refuses where every unit is out.
     /// It turns that unit's bit, and keeps the rest of the memory.
     fn take(&mut self) -> Result<u16, AllocatorFault>
-        requires { Mapped self.old.memory.now self.old.size self.old.hint }
-        ensures keeps { Mapped self.new.memory.now self.new.size self.new.hint }
         ensures took { Took (marks self.old.memory.now self.old.size) (marks self.new.memory.now self.new.size) result }
         ensures kept { Kept self.old self.new result }
         ensures holds { TookLowest self.old.memory.now self.new.memory.now result }
@@ -171,8 +169,6 @@ impl Allocator for Bitmap<'_> {
     /// Brings a unit back that is out. Refuses where it is not out.
     /// It turns that unit's bit, and keeps the rest of the memory.
     fn give(&mut self, unit: u16) -> Result<(), AllocatorFault>
-        requires { Mapped self.old.memory.now self.old.size self.old.hint }
-        ensures keeps { Mapped self.new.memory.now self.new.size self.new.hint }
         ensures gave { Gave (marks self.old.memory.now self.old.size) (marks self.new.memory.now self.new.size) unit result }
         ensures kept { Kept self.old self.new result }
         ensures holds { GaveBit self.old.memory.now self.new.memory.now unit result }
@@ -182,8 +178,8 @@ impl Allocator for Bitmap<'_> {
         if !self.is_out(unit) {
             return Err(AllocatorFault::NotOut { unit });
         }
-        turn(self.memory, unit as usize);
         self.hint = lower(self.hint, unit);
+        turn(self.memory, unit as usize);
         Ok(())
     }
 }

@@ -6,7 +6,7 @@ ghost use Rattle.pool.specs.Units.{Took, Gave, Checked, Kept};
 
 use super::allocator::{Allocator, AllocatorFault};
 
-// the entry of a unit that is out
+// the entry of a unit that is out: the lent memory's format has it so
 const OUT: u16 = u16::MAX;
 
 // links the first `size` entries one to the next
@@ -26,6 +26,7 @@ pub struct Chain<'a> {
     // the unit that goes out next, or the size where every unit is out
     head: u16,
     links: &'a mut [u16],
+    ghost linked: { Linked links.now size head } by { linked_once links.now size head },
 }
 
 impl<'a> Chain<'a> {
@@ -56,14 +57,6 @@ impl<'a> Chain<'a> {
             links,
         }
     }
-
-    // what the unit's entry holds
-    fn entry(&self, unit: u16) -> u16
-        requires { unit < length self.now.links.now }
-        ensures { result ≡ slice_index self.now.links.now unit }
-    {
-        self.links[usize::from(unit)]
-    }
 }
 
 impl Allocator for Chain<'_> {
@@ -82,14 +75,12 @@ impl Allocator for Chain<'_> {
     }
 
     fn is_out(&self, unit: u16) -> bool {
-        unit < self.size && self.links[unit as usize] == OUT
+        unit < self.size && self.links[usize::from(unit)] == OUT
     }
 
     /// Takes the unit at the head of the chain. Refuses where every unit is out.
     /// It writes that unit's entry, and keeps the rest of the memory.
     fn take(&mut self) -> Result<u16, AllocatorFault>
-        requires { Linked self.old.links.now self.old.size self.old.head }
-        ensures keeps { Linked self.new.links.now self.new.size self.new.head }
         ensures took { Took (taken self.old.links.now self.old.size) (taken self.new.links.now self.new.size) result }
         ensures kept { Kept self.old self.new result }
         ensures holds { TookHead self.old.links.now self.new.links.now self.old.head self.new.head result }
@@ -100,16 +91,16 @@ impl Allocator for Chain<'_> {
         if unit == self.size {
             return Err(AllocatorFault::AllOut);
         }
-        self.head = self.entry(unit);
-        self.links[unit as usize] = OUT;
+        let at = usize::from(unit);
+        let next = self.links[at];
+        self.links[at] = OUT;
+        self.head = next;
         Ok(unit)
     }
 
     /// Brings a unit back that is out, to the head of the chain. Refuses where it is not out.
     /// It writes that unit's entry, and keeps the rest of the memory.
     fn give(&mut self, unit: u16) -> Result<(), AllocatorFault>
-        requires { Linked self.old.links.now self.old.size self.old.head }
-        ensures keeps { Linked self.new.links.now self.new.size self.new.head }
         ensures gave { Gave (taken self.old.links.now self.old.size) (taken self.new.links.now self.new.size) unit result }
         ensures kept { Kept self.old self.new result }
         ensures holds { GaveHead self.old.links.now self.new.links.now self.old.head self.new.head unit result }
@@ -119,7 +110,7 @@ impl Allocator for Chain<'_> {
         if !self.is_out(unit) {
             return Err(AllocatorFault::NotOut { unit });
         }
-        self.links[unit as usize] = self.head;
+        self.links[usize::from(unit)] = self.head;
         self.head = unit;
         Ok(())
     }

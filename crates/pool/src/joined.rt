@@ -1,6 +1,6 @@
 // An allocator made of any two: the second's units follow the first's.
 ghost use Rattle.std.specs.Prelude.{◌≡◌, ◌+◌, ◌≤◌, ◌++◌, length};
-ghost use Rattle.pool.specs.Once.{joined_once};
+ghost use Rattle.std.specs.Coded.{×_prop};
 ghost use Rattle.pool.specs.Pairs.{Few, Placed, joined_sized};
 ghost use Rattle.pool.specs.Units.{Checked};
 
@@ -26,9 +26,10 @@ fn locate(border: u16, unit: u16) -> Place
 
 /// Two allocators as one.
 #[derive(Drop)]
-pub struct Joined<A, B> {
+pub struct Joined<A: Allocator, B: Allocator> {
     first: A,
     second: B,
+    ghost few: { Few (A.Allocator.units first) (B.Allocator.units second) },
 }
 
 impl<A: Allocator, B: Allocator> Joined<A, B> {
@@ -47,7 +48,7 @@ impl<A: Allocator, B: Allocator> Joined<A, B> {
     pub fn make(first: A, second: B) -> Self
         requires { (A.Allocator.wellmade first) × ((B.Allocator.wellmade second) × (Few (A.Allocator.units first) (B.Allocator.units second))) }
         ensures parts { (result.first ≡ first) × (result.second ≡ second) }
-        ensures made { A.Allocator.wellmade result.first × B.Allocator.wellmade result.second × Few (A.Allocator.units result.first) (B.Allocator.units result.second) }
+        ensures made { A.Allocator.wellmade result.first × B.Allocator.wellmade result.second }
         ensures units { A.Allocator.units result.first ++ B.Allocator.units result.second ≡ A.Allocator.units first ++ B.Allocator.units second }
     {
         Joined { first, second }
@@ -65,13 +66,13 @@ impl<A: Allocator, B: Allocator> Joined<A, B> {
 impl<A: Allocator, B: Allocator> Allocator for Joined<A, B> {
     ghost units = { λ s. A.Allocator.units s.first ++ B.Allocator.units s.second };
 
-    ghost wellmade = { λ s. A.Allocator.wellmade s.first × B.Allocator.wellmade s.second × Few (A.Allocator.units s.first) (B.Allocator.units s.second) };
+    ghost wellmade = { λ s. A.Allocator.wellmade s.first × B.Allocator.wellmade s.second };
 
     ghost lent = { λ s. A.Allocator.lent s.first ++ B.Allocator.lent s.second };
 
-    ghost sized = { λ s w. joined_sized (A.Allocator.units s.first) (B.Allocator.units s.second) (A.Allocator.sized s.first w.0) w.2 };
+    ghost sized = { λ s w. joined_sized (A.Allocator.units s.first) (B.Allocator.units s.second) (A.Allocator.sized s.first w.0) s.few };
 
-    ghost once = { λ s. joined_once (A.Allocator.units s.first) (B.Allocator.units s.second) (A.Allocator.once s.first) (B.Allocator.once s.second) };
+    ghost once = { λ s. ×_prop (A.Allocator.once s.first) (B.Allocator.once s.second) };
 
     fn size(&self) -> u16 {
         self.first.size() + self.second.size()
@@ -85,25 +86,21 @@ impl<A: Allocator, B: Allocator> Allocator for Joined<A, B> {
     }
 
     fn take(&mut self) -> Result<u16, AllocatorFault> {
-        match self.first.take() {
-            Ok(unit) => Ok(unit),
-            Err(_) => {
-                let border = self.first.size();
-                match self.second.take() {
-                    Ok(unit) => Ok(border + unit),
-                    Err(fault) => Err(fault),
-                }
-            }
+        if let Ok(unit) = self.first.take() {
+            return Ok(unit);
         }
+        let border = self.first.size();
+        let unit = self.second.take()?;
+        Ok(border + unit)
     }
 
     fn give(&mut self, unit: u16) -> Result<(), AllocatorFault> {
         match locate(self.first.size(), unit) {
             Place::First(own) => self.first.give(own),
-            Place::Second(own) => match self.second.give(own) {
-                Ok(()) => Ok(()),
-                Err(_) => Err(AllocatorFault::NotOut { unit }),
-            },
+            Place::Second(own) => self
+                .second
+                .give(own)
+                .map_err(|_| AllocatorFault::NotOut { unit }),
         }
     }
 }

@@ -5,9 +5,12 @@ use Rattle.pool.proofs.bitmap.BitmapAllocator.give.Goals as goal
 pub turn-requires : goal.turn-requires
 turn-requires c =
     let h : c.args.unit < c.args.self.now.size = out_below _ _ _ (sym c.if-not-is_out.ensures) in
-    omega (arith, c.requires.room)
+    omega (arith, c.args.self.now.mapped.room)
 
 pub returns : goal.returns
 returns c =
-    let b = bit_in _ _ _ _ _ _ c.requires c.turn.ensures c.lower-self.ensures (sym c.if-not-is_out.ensures) in
-    record { keeps = b.0; gave = b.1; kept = tt; holds = c.turn.ensures; lent = beside-turned _ _ _ _ _ c.requires.room.2 (out_below _ _ _ (sym c.if-not-is_out.ensures)) c.turn.ensures; named = refl }
+    let b = bit_in _ _ _ _ _ _ c.args.self.now.mapped c.turn.ensures c.lower-self.ensures (sym c.if-not-is_out.ensures) in
+    record { gave = b.1; kept = tt; holds = c.turn.ensures; lent = beside-turned _ _ _ _ _ c.args.self.now.mapped.room.2 (out_below _ _ _ (sym c.if-not-is_out.ensures)) c.turn.ensures; named = refl }
+
+pub invariant_of-self-2 : goal.invariant_of-self-2
+invariant_of-self-2 c = record { mapped = (bit_in _ _ _ _ _ _ c.args.self.now.mapped c.turn.ensures c.lower-self.ensures (sym c.if-not-is_out.ensures)).0 }
