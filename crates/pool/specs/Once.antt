@@ -1,4 +1,4 @@
--- An allocator is well made in one way only.
+-- What a bitmap and a chain keep, they keep in one way only.
 use Rattle.std.specs.Prelude.{◌≡◌, ℕ, ◌<◌, List, [], ◌∷◌, ◌≢◌, slice_index}
 use Rattle.std.proofs.Common.{sym, refl, ap, ◌∙◌, subst, inl, inr, arith}
 use Rattle.std.proofs.Props.{props}

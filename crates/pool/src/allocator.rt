@@ -32,40 +32,28 @@ pub trait Allocator {
     // the meaning: whether each unit is out
     ghost units: { Self → List Bool };
 
-    // what a making gives and every call keeps
-    ghost wellmade: { Self → Type 0 };
-
     // the lent memory: each by its name, with how many units it has and what it holds beside them
     ghost lent: { Self → List (ℕ × ℕ × List ℕ) };
 
     // the proof that there are 1 to 4,096 units
-    ghost sized: { (s : Self) → wellmade s → (1 ≤ length (units s)) × (length (units s) ≤ 4096) };
-
-    // the proof that a value is well made in one way only
-    ghost once: { (s : Self) → IsProp (wellmade s) };
+    ghost sized: { (s : Self) → (1 ≤ length (units s)) × (length (units s) ≤ 4096) };
 
     /// How many units there are.
     fn size(&self) -> u16
-        requires { wellmade self.now }
         ensures { result ≡ length (units self.now) };
 
     /// Whether the unit is out; one past the size is not.
     fn is_out(&self, unit: u16) -> bool
-        requires { wellmade self.now }
         ensures { result ≡ slice_index_or (units self.now) unit false };
 
     /// Takes a unit that is in. Refuses where every unit is out.
     fn take(&mut self) -> Result<u16, AllocatorFault>
-        requires { wellmade self.old }
-        ensures keeps { wellmade self.new }
         ensures took { Took (units self.old) (units self.new) result }
         ensures kept { Kept self.old self.new result }
         ensures lent { lent self.new ≡ lent self.old };
 
     /// Brings a unit back that is out. Refuses where it is not out.
     fn give(&mut self, unit: u16) -> Result<(), AllocatorFault>
-        requires { wellmade self.old }
-        ensures keeps { wellmade self.new }
         ensures gave { Gave (units self.old) (units self.new) unit result }
         ensures kept { Kept self.old self.new result }
         ensures lent { lent self.new ≡ lent self.old };

@@ -9,8 +9,7 @@ pub const NO_UNIT: u16 = u16::MAX;
 
 // gives back the first `count` units of the list, those of them that are out, and empties their places.
 fn give_back<A: Allocator>(pool: &mut A, list: &mut [u16], count: usize)
-    requires { (A.Allocator.wellmade pool.old) × (count ≤ length list.old) }
-    ensures keeps { A.Allocator.wellmade pool.new }
+    requires { count ≤ length list.old }
     ensures units { A.Allocator.units pool.new ≡ without (A.Allocator.units pool.old) (take count list.old) }
     ensures lent { A.Allocator.lent pool.new ≡ A.Allocator.lent pool.old }
     ensures list { list.new ≡ emptied list.old count }
@@ -24,8 +23,6 @@ fn give_back<A: Allocator>(pool: &mut A, list: &mut [u16], count: usize)
 /// Takes a unit for each place of the list. Where there are fewer units in, it gives back those that it took,
 /// and empties their places.
 pub fn take_exact<A: Allocator>(pool: &mut A, list: &mut [u16]) -> Result<(), AllocatorFault>
-    requires { A.Allocator.wellmade pool.old }
-    ensures keeps { A.Allocator.wellmade pool.new }
     ensures lent { A.Allocator.lent pool.new ≡ A.Allocator.lent pool.old }
     ensures filled { Filled (A.Allocator.units pool.old) (A.Allocator.units pool.new) list.old list.new result }
 {

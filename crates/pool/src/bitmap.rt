@@ -133,13 +133,9 @@ impl<'a> Bitmap<'a> {
 impl Allocator for Bitmap<'_> {
     ghost units = { λ s. marks s.memory.now s.size };
 
-    ghost wellmade = { λ s. Mapped s.memory.now s.size s.hint };
-
     ghost lent = { λ s. beside_bits s.memory.ghost_name s.memory.now s.size };
 
-    ghost sized = { λ s w. marks-sized s.memory.now s.size w.room };
-
-    ghost once = { λ s. mapped_once s.memory.now s.size s.hint };
+    ghost sized = { λ s. marks-sized s.memory.now s.size s.mapped.room };
 
     fn size(&self) -> u16 {
         self.size

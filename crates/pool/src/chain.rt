@@ -62,13 +62,9 @@ impl<'a> Chain<'a> {
 impl Allocator for Chain<'_> {
     ghost units = { λ s. taken s.links.now s.size };
 
-    ghost wellmade = { λ s. Linked s.links.now s.size s.head };
-
     ghost lent = { λ s. beside_links s.links.ghost_name s.links.now s.size };
 
-    ghost sized = { λ s w. taken-sized s.links.now s.size w.space };
-
-    ghost once = { λ s. linked_once s.links.now s.size s.head };
+    ghost sized = { λ s. taken-sized s.links.now s.size s.linked.space };
 
     fn size(&self) -> u16 {
         self.size

@@ -35,7 +35,6 @@ pub struct Joined<A: Allocator, B: Allocator> {
 impl<A: Allocator, B: Allocator> Joined<A, B> {
     /// Refuses two that have more than 4,096 units together.
     pub fn check(first: &A, second: &B) -> Result<(), AllocatorFault>
-        requires { (A.Allocator.wellmade first.now) × (B.Allocator.wellmade second.now) }
         ensures { Checked (Few (A.Allocator.units first.now) (B.Allocator.units second.now)) result }
     {
         if first.size() + second.size() > 4096 {
@@ -46,9 +45,8 @@ impl<A: Allocator, B: Allocator> Joined<A, B> {
 
     /// The two as one, neither of them changed.
     pub fn make(first: A, second: B) -> Self
-        requires { (A.Allocator.wellmade first) × ((B.Allocator.wellmade second) × (Few (A.Allocator.units first) (B.Allocator.units second))) }
+        requires { Few (A.Allocator.units first) (B.Allocator.units second) }
         ensures parts { (result.first ≡ first) × (result.second ≡ second) }
-        ensures made { A.Allocator.wellmade result.first × B.Allocator.wellmade result.second }
         ensures units { A.Allocator.units result.first ++ B.Allocator.units result.second ≡ A.Allocator.units first ++ B.Allocator.units second }
     {
         Joined { first, second }
@@ -66,13 +64,9 @@ impl<A: Allocator, B: Allocator> Joined<A, B> {
 impl<A: Allocator, B: Allocator> Allocator for Joined<A, B> {
     ghost units = { λ s. A.Allocator.units s.first ++ B.Allocator.units s.second };
 
-    ghost wellmade = { λ s. A.Allocator.wellmade s.first × B.Allocator.wellmade s.second };
-
     ghost lent = { λ s. A.Allocator.lent s.first ++ B.Allocator.lent s.second };
 
-    ghost sized = { λ s w. joined_sized (A.Allocator.units s.first) (B.Allocator.units s.second) (A.Allocator.sized s.first w.0) s.few };
-
-    ghost once = { λ s. ×_prop (A.Allocator.once s.first) (B.Allocator.once s.second) };
+    ghost sized = { λ s. joined_sized (A.Allocator.units s.first) (B.Allocator.units s.second) (A.Allocator.sized s.first) s.few };
 
     fn size(&self) -> u16 {
         self.first.size() + self.second.size()

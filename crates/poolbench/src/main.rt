@@ -54,10 +54,7 @@ fn case_of(line: &str) -> Option<Case> {
 }
 
 // takes every unit, and gives the lowest and the highest back
-fn fill<A: Allocator>(pool: &mut A) -> Result<(), AllocatorFault>
-    requires { A.Allocator.wellmade pool.old }
-    ensures { A.Allocator.wellmade pool.new }
-{
+fn fill<A: Allocator>(pool: &mut A) -> Result<(), AllocatorFault> {
     let size = pool.size();
     for _ in 0..size {
         pool.take()?;
@@ -67,10 +64,7 @@ fn fill<A: Allocator>(pool: &mut A) -> Result<(), AllocatorFault>
 }
 
 // so many rounds; the sum of the units that were taken
-fn work<A: Allocator>(pool: &mut A, rounds: u32) -> Result<u64, AllocatorFault>
-    requires { A.Allocator.wellmade pool.old }
-    ensures { A.Allocator.wellmade pool.new }
-{
+fn work<A: Allocator>(pool: &mut A, rounds: u32) -> Result<u64, AllocatorFault> {
     let mut sum = 0u64;
     for _ in 0..rounds {
         let one = pool.take()?;
@@ -84,9 +78,7 @@ fn work<A: Allocator>(pool: &mut A, rounds: u32) -> Result<u64, AllocatorFault>
     Ok(sum)
 }
 
-fn measure<A: Allocator>(pool: &mut A, case: Case) -> Result<u64, AllocatorFault>
-    requires { A.Allocator.wellmade pool.old }
-{
+fn measure<A: Allocator>(pool: &mut A, case: Case) -> Result<u64, AllocatorFault> {
     match case.load {
         Load::Empty => {}
         Load::Full => fill(pool)?,

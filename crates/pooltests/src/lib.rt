@@ -15,10 +15,7 @@ mod tests {
     use std::test::Fail;
 
     // takes every unit
-    fn fill<A: Allocator>(rt: &impl Abort, pool: &mut A) -> Result<(), Fail>
-        requires { A.Allocator.wellmade pool.old }
-        ensures { A.Allocator.wellmade pool.new }
-    {
+    fn fill<A: Allocator>(rt: &impl Abort, pool: &mut A) -> Result<(), Fail> {
         for _ in 0..pool.size() {
             let unit = pool.take()?;
             assert!(rt; pool.is_out(unit));
@@ -28,10 +25,11 @@ mod tests {
     }
 
     // gives every second unit back, twice
-    fn give_each_second<A: Allocator>(rt: &impl Abort, pool: &mut A, from: u16) -> Result<(), Fail>
-        requires { A.Allocator.wellmade pool.old }
-        ensures { A.Allocator.wellmade pool.new }
-    {
+    fn give_each_second<A: Allocator>(
+        rt: &impl Abort,
+        pool: &mut A,
+        from: u16,
+    ) -> Result<(), Fail> {
         for unit in from..pool.size() {
             if (unit - from) % 2 == 0 {
                 pool.give(unit)?;
@@ -43,9 +41,7 @@ mod tests {
     }
 
     // fills, empties in another order, and fills again
-    fn round<A: Allocator>(rt: &impl Abort, pool: &mut A) -> Result<(), Fail>
-        requires { A.Allocator.wellmade pool.old }
-    {
+    fn round<A: Allocator>(rt: &impl Abort, pool: &mut A) -> Result<(), Fail> {
         let size = pool.size();
         assert!(rt; !pool.is_out(size));
         assert_eq!(rt; pool.give(size), Err(AllocatorFault::NotOut { unit: size }));
@@ -134,10 +130,7 @@ mod tests {
     }
 
     // three units at once, then three more than there are
-    fn at_once<A: Allocator>(rt: &impl Abort, pool: &mut A, list: &mut [u16]) -> Result<(), Fail>
-        requires { A.Allocator.wellmade pool.old }
-        ensures { A.Allocator.wellmade pool.new }
-    {
+    fn at_once<A: Allocator>(rt: &impl Abort, pool: &mut A, list: &mut [u16]) -> Result<(), Fail> {
         let size = pool.size() as usize;
         assert!(rt; size >= 3 && list.len() >= size);
         take_exact(pool, &mut list[0..3])?;

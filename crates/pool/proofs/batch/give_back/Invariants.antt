@@ -4,7 +4,6 @@ use Rattle.pool.proofs.batch.give_back.Given as goal
 
 abbrev pub invariant-loop-i : goal.invariant-loop-i
 invariant-loop-i g l =
-    g.A.Allocator.wellmade l.pool
-    × (g.A.Allocator.units l.pool ≡ without (g.A.Allocator.units l.initial.pool) (take l.i l.initial.list))
+    (g.A.Allocator.units l.pool ≡ without (g.A.Allocator.units l.initial.pool) (take l.i l.initial.list))
     × (l.list ≡ emptied l.initial.list l.i)
     × (g.A.Allocator.lent l.pool ≡ g.A.Allocator.lent l.initial.pool)

@@ -6,21 +6,19 @@ use Rattle.pool.proofs.batch.take_exact.Goals as goal
 
 pub loop-i-preserved : goal.loop-i-preserved
 loop-i-preserved g c =
-    let t = taking _ _ _ c.args.list.now c.loop-i.list c.loop-i.i _ (omega arith) c.loop-i.invariant.1 c.loop-i.invariant.2 c.in-Ok.ensures.took in
-    (c.take.ensures.keeps, t.0, t.1, c.take.ensures.lent ∙ c.loop-i.invariant.3)
+    let t = taking _ _ _ c.args.list.now c.loop-i.list c.loop-i.i _ (omega arith) c.loop-i.invariant.0 c.loop-i.invariant.1 c.in-Ok.ensures.took in
+    (t.0, t.1, c.take.ensures.lent ∙ c.loop-i.invariant.2)
 
 pub returns-in-Err : goal.returns-in-Err
 returns-in-Err g c = record {
-  keeps = c.give_back.ensures.keeps;
-  lent = c.give_back.ensures.lent ∙ c.take.ensures.lent ∙ c.loop-i.invariant.3;
-  filled = refusing _ (g.A.Allocator.units c.loop-i.pool) _ _ c.args.list.now c.loop-i.list _ c.loop-i.i _ (omega arith) c.loop-i.auto.list c.loop-i.invariant.1 c.loop-i.invariant.2 c.in-Err.ensures.took c.give_back.ensures.units c.give_back.ensures.list;
+  lent = c.give_back.ensures.lent ∙ c.take.ensures.lent ∙ c.loop-i.invariant.2;
+  filled = refusing _ (g.A.Allocator.units c.loop-i.pool) _ _ c.args.list.now c.loop-i.list _ c.loop-i.i _ (omega arith) c.loop-i.auto.list c.loop-i.invariant.0 c.loop-i.invariant.1 c.in-Err.ensures.took c.give_back.ensures.units c.give_back.ensures.list;
 }
 
 pub returns : goal.returns
 returns g c =
     let P : List ℕ → Type 0 = λ l. Takes (g.A.Allocator.units c.args.pool.now) l (g.A.Allocator.units c.loop-i.pool) in
     record {
-      keeps = c.loop-i.invariant.0;
-      lent = c.loop-i.invariant.3;
-      filled = subst P (take_all c.loop-i.i c.loop-i.list (omega arith)) c.loop-i.invariant.1;
+      lent = c.loop-i.invariant.2;
+      filled = subst P (take_all c.loop-i.i c.loop-i.list (omega arith)) c.loop-i.invariant.0;
     }

@@ -5,7 +5,6 @@ use Rattle.pool.proofs.joined.JoinedAllocator.give.Goals as goal
 
 pub returns-in-First : goal.returns-in-First
 returns-in-First g c = record {
-  keeps = (c.give.ensures.keeps, c.requires.1);
   gave = gave_first _ _ _ _ _ _ _ c.size.ensures c.in-First.ensures.0 c.in-First.ensures.1 c.give.ensures.gave;
   kept = first-kept _ _ _ c.give.ensures.kept refl;
   lent = both_lent _ _ _ _ c.give.ensures.lent refl;

@@ -5,7 +5,6 @@ use Rattle.pool.proofs.joined.JoinedAllocator.take.Goals as goal
 
 pub returns-in-Ok : goal.returns-in-Ok
 returns-in-Ok g c = record {
-  keeps = (c.take.ensures.keeps, c.requires.1);
   took = took-first _ _ _ _ c.in-Ok.ensures.took;
   kept = tt;
   lent = both_lent _ _ _ _ c.take.ensures.lent refl;

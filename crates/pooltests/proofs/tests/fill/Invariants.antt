@@ -1,4 +1,0 @@
-use Rattle.pooltests.proofs.tests.fill.Given as goal
-
-abbrev pub invariant-loop : goal.invariant-loop
-invariant-loop g l = g.A.Allocator.wellmade l.pool
