@@ -3,7 +3,7 @@ ghost use Rattle.std.specs.Prelude.{◌≡◌};
 ghost use Rattle.ledger.specs.Replies.{answer_of, replied};
 ghost use Rattle.tally.specs.Faults.{answer_of as done_of, told_of};
 
-use orders::answer::{Answer, Figures};
+use orders::answer::{Answer, Figures, Refusal};
 use tally::fault::LedgerFault;
 
 /// The answer to an accepted order.
@@ -53,6 +53,6 @@ pub fn answer(res: Result<Reply, LedgerFault>) -> Answer
 {
     match res {
         Ok(reply) => reply.answer(),
-        Err(fault) => Answer::Refused(fault.refusal()),
+        Err(fault) => Answer::Refused(Refusal::from(fault)),
     }
 }

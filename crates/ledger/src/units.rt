@@ -14,6 +14,7 @@ use costs::policy::CostPolicy;
 use marks::marks::Marks;
 use pool::allocator::Allocator;
 use tally::fault::LedgerFault;
+use tally::records::{Freed, Resized};
 
 // The units of the records from `start` to before `end` become deferred ones of their volume.
 pub(crate) fn defer_from<A: Allocator>(marks: &mut Marks<A>, volume: u8, start: u8, end: u8)
@@ -34,8 +35,7 @@ impl<A: Allocator, P: CostPolicy> Ledger<A, P> {
         ensures { Did A.Allocator.units A.Allocator.wellmade A.Allocator.lent P.CostPolicy.cost P.CostPolicy.worst self.old self.new (to_free t number) (answer_of result) }
     {
         match self.tally.free(t, number) {
-            Ok(freed) => {
-                let (volume, units) = freed;
+            Ok(Freed { volume, units }) => {
                 let _ = self.marks.defer(volume, number);
                 Ok(Reply::Done(units))
             }
@@ -75,8 +75,7 @@ impl<A: Allocator, P: CostPolicy> Ledger<A, P> {
         ensures { Did A.Allocator.units A.Allocator.wellmade A.Allocator.lent P.CostPolicy.cost P.CostPolicy.worst self.old self.new (to_resize volume records) (answer_of result) }
     {
         match self.tally.resize(volume, records) {
-            Ok(resized) => {
-                let (old, units) = resized;
+            Ok(Resized { old, units }) => {
                 defer_from(&mut self.marks, volume, records, old);
                 Ok(Reply::Done(units))
             }

@@ -3,7 +3,7 @@ ghost use Rattle.std.specs.Prelude.{◌≡◌, None};
 ghost use Rattle.runner.specs.Faults.{fault_answer, fault_ground, placed, refused_at};
 ghost use Rattle.runner.specs.declared.fault.ScriptFault.TheVariants.{Refused as refused_order};
 
-use orders::answer::Answer;
+use orders::answer::{Answer, Refusal};
 use reader::fault::ReadFault;
 use tally::fault::LedgerFault;
 
@@ -41,7 +41,7 @@ impl ScriptFault {
             ScriptFault::TooLong => 1,
             ScriptFault::Unreadable(fault) => fault.number(),
             ScriptFault::NoRoom { place: _ } => 4,
-            ScriptFault::Refused { fault, place: _ } => fault.refusal().number,
+            ScriptFault::Refused { fault, place: _ } => Refusal::from(fault).number,
         }
     }
 
@@ -78,7 +78,7 @@ impl ScriptFault {
         ensures { result ≡ fault_answer self }
     {
         match self {
-            ScriptFault::Refused { fault, place: _ } => Answer::Refused(fault.refusal()),
+            ScriptFault::Refused { fault, place: _ } => Answer::Refused(Refusal::from(fault)),
             other => Answer::Stopped {
                 number: other.number(),
                 place: short_place(other.place()),

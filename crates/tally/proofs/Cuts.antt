@@ -1,7 +1,8 @@
 -- A volume cut to fewer records, or given more.
-use Rattle.std.proofs.Common.{◌≡◌, ℕ, zero, suc, ◌+◌, ◌-◌, ◌^◌, ◌<◌, ◌≤◌, Bool, true, false, cond, List, [], ◌∷◌, length, get_or, drop, set, None, Ok, Err, sum, Result, sym, refl, ap, ◌∙◌, subst, inl, inr, add-zero, add-one, arith}
-use Rattle.std.proofs.lemmas.List.{length-set, get_or-drop, drop-set-lt}
-use Rattle.std.proofs.lemmas.List.Sums.{sum_by-cons, sum_by-drop_more, get_or-le-sum_by}
+use Rattle.std.proofs.Common.{◌≡◌, ℕ, zero, suc, ◌+◌, ◌-◌, ◌^◌, ◌<◌, ◌≤◌, Bool, true, false, cond, List, [], ◌∷◌, ◌++◌, length, get_or, take, drop, set, replicate, None, Ok, Err, sum, Result, sym, refl, ap, ◌∙◌, subst, inl, inr, add-zero, add-one, arith}
+use borrow.Rule.Slice.PartMut.{mid_of, post_of, mid_len}
+use Rattle.std.proofs.lemmas.List.{length-set, length-append, length-take, length-drop, length-replicate, append-nil, take_all, drop_all, get_or-set_other, get_or-take, get_or-drop, get_or-replicate, get_or_append_left, get_or-append_right, drop-set-lt, ext_get_or}
+use Rattle.std.proofs.lemmas.List.Sums.{sum_by-cons, sum_by-drop_more, sum_by-take-drop}
 use Rattle.std.proofs.lemmas.Bool.{cases_lt}
 use Rattle.orders.specs.declared.answer.Answer.{Answer}
 use Rattle.orders.specs.declared.answer.Answer.TheVariants.{Done, Refused}
@@ -9,10 +10,11 @@ use Rattle.orders.specs.Meaning.{resize}
 use Rattle.rules.specs.declared.state.Contents.{Contents}
 use Rattle.rules.specs.Book.{Dataset, dataset, made, records}
 use Rattle.rules.specs.Answers.{refused_by_tree, records_fit, answer}
-use Rattle.rules.specs.Effects.{emptied, emptied_from, with_records, resized, holding, next}
+use Rattle.rules.specs.Effects.{emptied, emptied_from, resized, holding, next}
 use Rattle.rules.specs.Invariant.{ShapedContents}
 use Rattle.rules.proofs.Accepted.{resize_ok}
-use Rattle.rules.proofs.Rows.{held_by, units-emptied_from, held-emptied_from, rows-resize}
+use Rattle.rules.proofs.Edits.{name-emptied_from, resize-fits as cut-fits}
+use Rattle.rules.proofs.Rows.{units-emptied_from, becomes_empty, rows-resize}
 use Rattle.rules.proofs.Shapes.{shaped-resize}
 use Rattle.tree.specs.declared.fault.TreeFault.{TreeFault}
 use Rattle.tree.specs.declared.fault.TreeFault.TheVariants.{RecordCount}
@@ -31,13 +33,11 @@ use Rattle.tally.proofs.Checks.{volume_check}
 use Rattle.tally.proofs.Joins.{datasets-contents}
 use Rattle.tally.proofs.Sounds.{sound, made-is, rows_are, shaped, still-sound, refused_did}
 
--- one record more
-emptied-more : (k r : ℕ) (c : Contents) → emptied (emptied_from r k c) (r + k) ≡ emptied_from r (suc k) c
+-- the records below those that are emptied stay
+stays-below : (k r : ℕ) (c : Contents) (i : ℕ) → i < r → get_or (emptied_from r k c).units i 0 ≡ get_or c.units i 0
 unfolding emptied_from
-emptied-more zero r c = ap (emptied c) (add-zero r)
-emptied-more (suc k) r c =
-    let e : r + suc k ≡ suc r + k = omega arith in
-    ap (emptied (emptied_from (suc r) k (emptied c r))) e ∙ emptied-more k (suc r) (emptied c r)
+stays-below zero r c i l = refl
+stays-below (suc k) r c i l = stays-below k (suc r) (emptied c r) i (omega arith) ∙ get_or-set_other c.units r i 0 0 (λ e. omega arith)
 
 -- what is deferred comes from the records
 moved_sum : (k r : ℕ) (c : Contents) → r + k ≤ length c.units →
@@ -64,83 +64,51 @@ none-sum (x ∷ xs) none = omega (arith, sum_by-cons (λ (n : ℕ). n) x xs, non
 past-sum : (c : Contents) (n : ℕ) → ShapedContents c → c.records ≤ n → sum (drop n c.units) ≡ 0
 past-sum c n s le = none-sum (drop n c.units) (λ i. get_or-drop n c.units i 0 ∙ s.past_the_end (n + i) (omega arith))
 
--- after the records from n up to r
-pub record Cutting (c c' : Contents) (n r units : ℕ) : Type 0 where
-  pub inside : n ≤ r
-  pub most : n ≤ c.records → r ≤ c.records
-  pub none : c.records ≤ n → r ≤ n
-  pub contents_are : c' ≡ emptied_from n (r - n) c
-  pub units_are : c.deferred + units ≡ c'.deferred
+contents_eq : {name name' us us' : List ℕ} {n d d' : ℕ} → name ≡ name' → us ≡ us' → d ≡ d' →
+    ◌≡◌ {A = Contents} (record { name = name; records = n; units = us; deferred = d }) (record { name = name'; records = n; units = us'; deferred = d' })
+contents_eq e f g = cc
 
-pub cutting_starts : (c : Contents) (n : ℕ) → Cutting c c n n 0
-unfolding emptied_from
-cutting_starts c n =
-    let e : 0 ≡ n - n = omega arith in
-    record {
-      inside = omega arith;
-      most = λ le. le;
-      none = λ le. omega arith;
-      contents_are = ap (λ (k : ℕ). emptied_from n k c) e;
-      units_are = omega arith;
-    }
-
-module _ (c : Contents) (s : ShapedContents c) (small : sum c.units + c.deferred < 2 ^ 16)
-    (c' : Contents) (n r units : ℕ) (so_far : Cutting c c' n r units) (lr : r < c.records) where
-  reaches : n + (r - n) ≤ length c.units
-  reaches = omega (arith, so_far.inside, s.units_long, s.records_few)
-
-  pub cutting_inside : r < length c'.units
-  cutting_inside = omega (arith, ap (λ (x : Contents). length x.units) so_far.contents_are, units-emptied_from (r - n) n c, s.units_long, s.records_few)
-
-  pub cutting_fits : c'.deferred + get_or c'.units r 0 < 2 ^ 16
-  cutting_fits =
-      omega (
-        arith,
-        ap held_by so_far.contents_are,
-        held-emptied_from (r - n) n c reaches,
-        get_or-le-sum_by (λ (x : ℕ). x) c'.units r 0 cutting_inside,
-      )
-
-  pub cutting_adds : units + get_or c'.units r 0 < 2 ^ 16
-  cutting_adds = omega (arith, cutting_fits, so_far.units_are)
-
-  pub cutting_on : Cutting c (emptied c' r) n (r + 1) (units + get_or c'.units r 0)
-  cutting_on =
-      let at : r ≡ n + (r - n) = omega (arith, so_far.inside) in
-      let more : suc (r - n) ≡ (r + 1) - n = omega (arith, so_far.inside) in
-      record {
-        inside = omega (arith, so_far.inside);
-        most = λ le. omega arith;
-        none = λ le. absurd (omega (arith, so_far.inside));
-        contents_are =
-            ap (emptied c') at ∙ ap (λ (x : Contents). emptied x (n + (r - n))) so_far.contents_are ∙ emptied-more (r - n) n c
-            ∙ ap (λ (k : ℕ). emptied_from n k c) more;
-        units_are = omega (arith, so_far.units_are);
-      }
-
-module _ (c : Contents) (s : ShapedContents c) (c' : Contents) (n r units : ℕ) (few : n ≤ 64) (all : Cutting c c' n r units) (done : c.records ≤ r) where
-  as_many : r - n ≡ c.records - n
-  as_many = elim (cases_lt n c.records) [
-    | inl l ↦ omega (arith, all.most (omega arith))
-    | inr l ↦ omega (arith, all.none l)
-  ]
-
-  pub cut_resized : with_records n c' ≡ resized c n
-  cut_resized = ap (with_records n) (all.contents_are ∙ ap (λ (k : ℕ). emptied_from n k c) as_many)
-
-  pub cut_units : units ≡ sum (drop n c.units)
+-- a cut by slices: m is n as an index, and ys what the records from there on are then
+module _ (c : Contents) (s : ShapedContents c) (n : ℕ) (few : n ≤ 64) (m : ℕ) (index : m ≡ n) where
+  pub cut_units : sum (mid_of m (64 - m) c.units) ≡ sum (drop n c.units)
   cut_units =
-      let fits : n + (r - n) ≤ length c.units = elim (cases_lt n c.records) [
-        | inl l ↦ omega (arith, all.most (omega arith), s.units_long, s.records_few, all.inside)
-        | inr l ↦ omega (arith, all.none l, s.units_long)
-      ] in
-      omega (
-        arith,
-        all.units_are,
-        ap (λ (x : Contents). x.deferred) all.contents_are,
-        moved_sum (r - n) n c fits,
-        past-sum c (n + (r - n)) s (omega (arith, all.inside)),
-      )
+      ap sum (take_all (64 - m) (drop m c.units) (omega (arith, length-drop m c.units, s.units_long)))
+      ∙ ap (λ (k : ℕ). sum (drop k c.units)) index
+
+  pub cut_few : sum (mid_of m (64 - m) c.units) ≤ sum c.units
+  cut_few = omega (arith, cut_units, sum_by-take-drop (λ (x : ℕ). x) c.units n)
+
+  emptied-units : (emptied_from n (c.records - n) c).units ≡ take n c.units ++ replicate (64 - n) 0
+  emptied-units =
+      let k = c.records - n in
+      let front : length (take n c.units) ≡ n = omega (arith, length-take n c.units, s.units_long) in
+      ext_get_or 0 (emptied_from n k c).units (take n c.units ++ replicate (64 - n) 0)
+      (omega (arith, units-emptied_from k n c, s.units_long, front, length-append (take n c.units) (replicate (64 - n) 0), length-replicate {A = ℕ} (64 - n) 0))
+      (λ i l. elim (cases_lt i n) [
+        | inl below ↦
+            stays-below k n c i below
+            ∙ sym (get_or_append_left (take n c.units) (replicate (64 - n) 0) 0 i (omega arith) ∙ get_or-take n c.units i 0 below)
+        | inr above ↦
+            becomes_empty k n c i (cut-fits c n s few) above (λ past. s.past_the_end i (omega arith))
+            ∙ sym (get_or-append_right (take n c.units) (replicate (64 - n) 0) n i 0 front above
+            ∙ get_or-replicate (64 - n) (i - n) 0 0 (omega (arith, units-emptied_from k n c, s.units_long)))
+      ])
+
+  emptied-deferred : (emptied_from n (c.records - n) c).deferred ≡ c.deferred + sum (drop n c.units)
+  emptied-deferred =
+      omega (arith, moved_sum (c.records - n) n c (cut-fits c n s few), past-sum c (n + (c.records - n)) s (omega arith))
+
+  pub cut_resized : (ys : List ℕ) (d : ℕ) → ys ≡ replicate (length (mid_of m (64 - m) c.units)) 0 → d ≡ sum (mid_of m (64 - m) c.units) →
+      ◌≡◌ {A = Contents} (record { name = c.name; records = n; units = take m c.units ++ (ys ++ post_of m (64 - m) c.units); deferred = c.deferred + d })
+      (resized c n)
+  cut_resized ys d empty is =
+      let none : post_of m (64 - m) c.units ≡ [] = drop_all (64 - m) (drop m c.units) (omega (arith, length-drop m c.units, s.units_long)) in
+      let long : length (mid_of m (64 - m) c.units) ≡ 64 - m = mid_len m 64 c.units (omega (arith, s.units_long)) in
+      let past : ys ++ post_of m (64 - m) c.units ≡ replicate (64 - m) 0 =
+      ap (λ (zs : List ℕ). ys ++ zs) none ∙ append-nil ys ∙ empty ∙ ap (λ (k : ℕ). replicate k 0) long in
+      contents_eq (sym (name-emptied_from (c.records - n) n c))
+      (ap (λ (zs : List ℕ). take m c.units ++ zs) past ∙ ap (λ (k : ℕ). take k c.units ++ replicate (64 - k) 0) index ∙ sym emptied-units)
+      (omega (arith, emptied-deferred, is, cut_units))
 
 records_by : (q : Bool) (n : ℕ) (a : Answer) →
     cond q a (refused_by_tree 14 n 0) ≡ and_then {X = Unit {0}} (lifted None (cond q (Ok tt) (Err (RecordCount n)))) (λ _. a)

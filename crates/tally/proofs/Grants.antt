@@ -1,5 +1,5 @@
 -- Grants: assigned, and given back by a commit.
-use Rattle.std.proofs.Common.{◌≡◌, ℕ, ◌+◌, ◌-◌, ◌*◌, ◌<◌, ◌≤◌, ltb, ◌≢◌, List, length, set, pos, Some, None, Ok, Err, Option, Result, sym, refl, ap, ◌∙◌, arith}
+use Rattle.std.proofs.Common.{◌≡◌, ℕ, ◌+◌, ◌-◌, ◌*◌, ◌<◌, ltb, ◌≢◌, List, length, set, pos, Some, None, Ok, Err, Option, Result, sym, refl, ap, ◌∙◌, arith}
 use Rattle.std.proofs.lemmas.Bool.{lt-ltb, cond-true}
 use Rattle.orders.specs.declared.answer.Answer.TheVariants.{Done, Refused}
 use Rattle.orders.specs.Meaning.{assign, commit}
@@ -22,6 +22,7 @@ use Rattle.tree.specs.declared.fault.TreeFault.TheVariants.{Missing}
 use Rattle.tree.specs.Parts.{rows_of, kinds_of, room_of, Becomes}
 use Rattle.tree.specs.Answers.{if_granted, as_dataset, raise_answer}
 use Rattle.tally.specs.declared.Tally.{Tally}
+use Rattle.tally.specs.declared.fault.LedgerFault.{LedgerFault}
 use Rattle.tally.specs.declared.fault.LedgerFault.TheVariants.{InTree}
 use Rattle.tally.specs.declared.step.Asked.TheVariants.{Assign, Commit}
 use Rattle.tally.specs.declared.step.Change.{Change}
@@ -30,7 +31,7 @@ use Rattle.tally.specs.Joined.{datasets_in, book_in}
 use Rattle.tally.specs.Parts.{book_of, figures_of, Did}
 use Rattle.tally.specs.Sound.{Sound}
 use Rattle.tally.specs.Steps.{lifted, change_of}
-use Rattle.tally.proofs.Asks.{and_then, allowed, goes_on, granted, assign_steps, estimated, commit_steps, assigned, committed}
+use Rattle.tally.proofs.Asks.{and_then, ok_not_err, allowed, goes_on, granted, assign_steps, estimated, commit_steps, assigned, committed}
 use Rattle.tally.proofs.Joins.{datasets-own}
 use Rattle.tally.proofs.Sounds.{sound, made-is, rows_are, shaped, still-sound, refused_did}
 
@@ -42,6 +43,23 @@ own-book tree tree' v x l be contents transactions =
     (ap (λ (rs : List Row). datasets_in rs (kinds_of tree') contents) be.rows_are
     ∙ ap (λ (ks : List Kind). datasets_in (with_own (rows_of tree) v x) ks contents) be.kinds_are
     ∙ datasets-own (rows_of tree) (kinds_of tree) contents v l x)
+
+-- what the tree answered, where a refusal of it has the transaction
+pub record Refusing (t : Option ℕ) (r : Result (Unit {0}) TreeFault) (f : LedgerFault) : Type 0 where
+  pub fault : TreeFault
+  pub was : r ≡ Err fault
+  pub is : f ≡ InTree fault t
+
+pub refused_in : (t : Option ℕ) (r : Result (Unit {0}) TreeFault) (f : LedgerFault) → Err f ≡ lifted t r → Refusing t r f
+refused_in t (Ok x) f e = ok_not_err x f (sym e)
+refused_in t (Err g) f e = record { fault = g; was = refl; is = same f (InTree g t) e }
+  where
+    same : (f g : LedgerFault) → ◌≡◌ {A = Result (Unit {0}) LedgerFault} (Err f) (Err g) → f ≡ g
+    same f g e = cc
+
+pub granted_in : (t : Option ℕ) (r : Result (Unit {0}) TreeFault) → Ok tt ≡ lifted t r → r ≡ Ok tt
+granted_in t (Ok tt) e = refl
+granted_in t (Err g) e = ok_not_err {X = Unit {0}} tt (InTree g t) e
 
 walked : (t : Option ℕ) (o : Option (ℕ × ℕ)) (u : ℕ) → unless_short o (Done u) ≡ and_then (lifted t (if_granted {X = Unit {0}} o (Ok tt))) (λ _. Done u)
 walked t None u = refl
@@ -71,9 +89,6 @@ module _ (t : Tally) (x : ℕ) (c : Change) (e : change_of t.transactions x Assi
 
   same_writes : writes_of c.after ≡ writes_of (transaction (book_of t) x)
   same_writes = ap writes_of assign_state.1
-
-  pub assign-few : writes_of c.after ≤ 64
-  assign-few = omega (arith, same_writes, ((shaped t (λ s. 0)).transactions x).few_writes)
 
   assign-listed : volume_of c.after < length (rows_of t.tree)
   assign-listed = omega (arith, same-volume, volume-listed t x (held_busy _ _ _ _ assign_state.0))
@@ -139,9 +154,6 @@ module _ (t : Tally) (x : ℕ) (c : Change) (e : change_of t.transactions x Comm
 
   was : c.before ≡ transaction (book_of t) x
   was = (allowed t.transactions x Commit c e).before
-
-  pub commit-few : writes_of c.before ≤ 64
-  commit-few = omega (arith, ap writes_of was, ((shaped t (λ s. 0)).transactions x).few_writes)
 
   pub commit-listed : volume_of c.before < length (rows_of t.tree)
   commit-listed = omega (arith, ap volume_of was, volume-listed t x (assigned_busy _ _ _ _ commit_state.0))

@@ -1,5 +1,5 @@
 -- The figures of a dataset.
-use Rattle.std.proofs.Common.{◌≡◌, ℕ, ◌^◌, ◌<◌, ◌≤◌, Bool, true, false, cond, ltb, List, length, get_or, None, Ok, Err, sum_by, sum, Result, sym, refl, ap, ◌∙◌, arith}
+use Rattle.std.proofs.Common.{◌≡◌, ℕ, ◌^◌, ◌<◌, Bool, true, false, cond, ltb, List, length, None, Ok, Err, sum_by, sum, Result, sym, refl, ap, ◌∙◌, arith}
 use Rattle.std.proofs.lemmas.Bool.{ltb-true, cond-true}
 use Rattle.orders.specs.declared.answer.Answer.{Answer}
 use Rattle.orders.specs.declared.answer.Answer.TheVariants.{Refused, Told}
@@ -7,8 +7,7 @@ use Rattle.orders.specs.Meaning.{tell}
 use Rattle.charges.specs.declared.Row.{Row}
 use Rattle.charges.specs.Tree.{charge as charge_in}
 use Rattle.rules.specs.declared.state.Contents.{Contents}
-use Rattle.rules.specs.declared.state.Transaction.TheVariants.{Idle}
-use Rattle.rules.specs.Book.{dataset, made, writes_of, charge}
+use Rattle.rules.specs.Book.{dataset, made, charge}
 use Rattle.rules.specs.Answers.{refused_by_tree, to_tell, answer}
 use Rattle.tree.specs.declared.fault.TreeFault.{TreeFault}
 use Rattle.tree.specs.declared.fault.TreeFault.TheVariants.{Missing}
@@ -23,7 +22,7 @@ use Rattle.tally.specs.Parts.{book_of, figures_of, Did}
 use Rattle.tally.proofs.Asks.{ok_not_err}
 use Rattle.tally.proofs.Bounds.{contents-is, held-few, own-few}
 use Rattle.tally.proofs.Costs.{grants_by}
-use Rattle.tally.proofs.Sounds.{made-is, rows_are, shaped, refused_did}
+use Rattle.tally.proofs.Sounds.{made-is, rows_are, refused_did}
 
 abbrev shown : Contents → ℕ → ℕ → Answer
 shown x n g = Told (record { name = x.name; charge = n; record_units = sum x.units; deferred_units = x.deferred; unspent_grants = g })
@@ -66,9 +65,6 @@ module _ (t : Tally) (d : ℕ) where
         let F = figures_of (λ s. 0) t in
         let lt : d < made (book_of t) = omega (arith, told_listed, made-is t.tree t.contents t.transactions) in
         omega (arith, own-few t (λ s. 0) d lt, grants_by F d t.transactions, t.sized)
-
-    pub told_few : (x : ℕ) → writes_of (get_or t.transactions x Idle) ≤ 64
-    told_few x = ((shaped t (λ s. 0)).transactions x).few_writes
 
     told_is : (cost : ℕ → ℕ) →
         answer (figures_of cost t) (book_of t) (tell d)

@@ -1,5 +1,5 @@
 -- Orders on transactions that grant nothing.
-use Rattle.std.proofs.Common.{◌≡◌, ℕ, ◌+◌, ◌*◌, ◌<◌, ◌≤◌, List, length, set, Some, Ok, Err, sym, refl, ap, ◌∙◌, arith}
+use Rattle.std.proofs.Common.{◌≡◌, ℕ, ◌+◌, ◌*◌, ◌<◌, List, length, set, Some, Ok, Err, sym, refl, ap, ◌∙◌, arith}
 use Rattle.orders.specs.declared.answer.Answer.TheVariants.{Done, Refused}
 use Rattle.orders.specs.Meaning.{begin, hold_writes, hold_frees, abort}
 use Rattle.rules.specs.declared.state.Contents.{Contents}
@@ -86,11 +86,6 @@ module _ (t : Tally) (x : ℕ) where
     writes_state : c.after ≡ Held (volume_of (transaction (book_of t) x)) (writes_of (transaction (book_of t) x) + n) (frees_of (transaction (book_of t) x))
     writes_state = held_writes x n (transaction (book_of t) x) c.after (allowed t.transactions x (HoldWrites n) c e).after
 
-    pub writes_few : writes_of c.after ≤ 64
-    writes_few =
-        let F = figures_of (λ s. 0) t in
-        omega (arith, ap writes_of writes_state, (hold_writes_ok F (book_of t) (writes_of c.after * t.worst) x n (writes_done (λ s. 0))).3)
-
     pub writes_sound : ∥ Sound t.size t.slop t.worst t.tree t.contents (set t.transactions x c.after) ∥₁
     writes_sound =
         put_idle t x c.after _ (allowed t.transactions x (HoldWrites n) c e).listed writes_state
@@ -105,9 +100,6 @@ module _ (t : Tally) (x : ℕ) where
 
     frees_state : c.after ≡ Held (volume_of (transaction (book_of t) x)) (writes_of (transaction (book_of t) x)) (frees_of (transaction (book_of t) x) + n)
     frees_state = held_frees x n (transaction (book_of t) x) c.after (allowed t.transactions x (HoldFrees n) c e).after
-
-    pub frees_few : writes_of c.after ≤ 64
-    frees_few = omega (arith, ap writes_of frees_state, ((shaped t (λ s. 0)).transactions x).few_writes)
 
     pub frees_sound : ∥ Sound t.size t.slop t.worst t.tree t.contents (set t.transactions x c.after) ∥₁
     frees_sound =
@@ -128,9 +120,6 @@ module _ (t : Tally) (x : ℕ) where
 
     abort_state : c.after ≡ Idle
     abort_state = aborted x (transaction (book_of t) x) c.after (allowed t.transactions x Abort c e).after
-
-    pub abort-few : writes_of c.before ≤ 64
-    abort-few = omega (arith, ap writes_of before-is, ((shaped t (λ s. 0)).transactions x).few_writes)
 
     pub abort-sound : ∥ Sound t.size t.slop t.worst t.tree t.contents (set t.transactions x c.after) ∥₁
     abort-sound =

@@ -1,8 +1,11 @@
 -- A turn, dataset by dataset.
-use Rattle.std.proofs.Common.{◌≡◌, ℕ, zero, suc, ◌+◌, ◌-◌, ◌<◌, ◌≤◌, Bool, true, false, cond, eqb, ltb, List, [], ◌∷◌, map, length, get_or, take, set, Ok, Err, sum_by, count_by, Result, sym, refl, ap, ◌∙◌, subst, inl, inr, add-one, arith}
+use Rattle.std.proofs.Common.{◌≡◌, ℕ, zero, suc, ◌+◌, ◌-◌, ◌<◌, ◌≤◌, Bool, true, false, cond, eqb, ltb, List, [], ◌∷◌, map, length, get_or, take, set, Some, None, Ok, Err, sum_by, count_by, Option, Result, sym, refl, ap, ◌∙◌, subst, inl, inr, add-one, arith}
 use Rattle.std.proofs.lemmas.List.{length-set, length-map, get_or_past, get_or-set_same, get_or-set_other, get_or-map, set_past, take_all, ext_get_or}
-use Rattle.std.proofs.lemmas.List.Sums.{sum_by-cons, sum_by_more, sum_by-take-le}
-use Rattle.std.proofs.lemmas.Bool.{ltb-true, ltb-false, cases_eq, cases_lt}
+use Rattle.std.proofs.lemmas.List.Sums.{sum_by-cons, sum_by_more, sum_by-take-le, get_or-le-sum_by, fails_before_first}
+use Rattle.std.proofs.lemmas.List.Quantifiers.{position-Some}
+use Rattle.std.proofs.lemmas.List.Recursion.{is_position_or_len}
+use Rattle.std.specs.List.{position, position_or_len}
+use Rattle.std.proofs.lemmas.Bool.{ltb-true, ltb-false, ne_eqb, cases_eq, cases_lt}
 use Rattle.orders.specs.declared.answer.Answer.{Answer}
 use Rattle.orders.specs.declared.answer.Answer.TheVariants.{Done, Refused}
 use Rattle.orders.specs.Meaning.{turn}
@@ -13,6 +16,7 @@ use Rattle.charges.proofs.Falls.{fall_law}
 use Rattle.charges.proofs.Limits.{limit-law}
 use Rattle.rules.specs.declared.state.Contents.{Contents}
 use Rattle.rules.specs.declared.state.Transaction.{Transaction}
+use Rattle.rules.specs.declared.state.Transaction.TheVariants.{Idle}
 use Rattle.rules.specs.Figures.{Figures, room}
 use Rattle.rules.specs.Book.{Dataset, Book, dataset, made, deferred, all_deferred, own, rows, is_assigned}
 use Rattle.rules.specs.Answers.{first_assigned, answer}
@@ -248,6 +252,55 @@ module _ (t t' : Tally) (n given : ℕ) (so_far : Turning t t' n given) (t'' : T
 
   pub turning-fits : given + u ≤ t.size
   turning-fits = omega (arith, step_sum, sum_by-take-le deferred_of (book_of t).datasets (n + 1), all_few t)
+
+-- the first assigned is where a search ends
+later_by : (q : Bool) (n k m : ℕ) → k ≡ suc m → cond q (suc n) k ≡ suc (cond q n m)
+later_by true n k m e = refl
+later_by false n k m e = e
+
+first-later : (n : ℕ) (ts : List Transaction) → first_assigned (suc n) ts ≡ suc (first_assigned n ts)
+first-later n [] = refl
+first-later n (x ∷ xs) = later_by (is_assigned x) n (first_assigned (suc (suc n)) xs) (first_assigned (suc n) xs) (first-later (suc n) xs)
+
+first-is : (ts : List Transaction) → first_assigned 0 ts ≡ position_or_len is_assigned ts
+first-is ts =
+    is_position_or_len (first_assigned 0) is_assigned refl
+    (λ x xs. ap (cond (is_assigned x) 0) (let e : first_assigned 1 xs ≡ 1 + first_assigned 0 xs = omega (arith, first-later 0 xs) in e)) ts
+
+none-count : (ts : List Transaction) → ((k : ℕ) → k < length ts → is_assigned (get_or ts k Idle) ≡ false) → count_by is_assigned ts ≡ 0
+none-count [] none = refl
+none-count (x ∷ xs) none =
+    omega (
+      arith,
+      sum_by-cons (λ (y : Transaction). cond (is_assigned y) 1 0) x xs,
+      ap {B = ℕ} (λ (q : Bool). cond q 1 0) (none 0 (omega arith)),
+      none-count xs (λ k l. none (suc k) (omega arith)),
+    )
+
+none_by : (q : Bool) (i : ℕ) → ◌≡◌ {A = Option ℕ} (cond q (Some i) None) None → q ≡ false
+none_by true i e = let z : ◌≡◌ {A = ℕ} 0 1 = cc in absurd (omega arith)
+none_by false i e = refl
+
+some_by : (q : Bool) (i j : ℕ) → ◌≡◌ {A = Option ℕ} (cond q (Some i) None) (Some j) → i ≡ j
+some_by true i j e = cc
+some_by false i j e = let z : ◌≡◌ {A = ℕ} 0 1 = cc in absurd (omega arith)
+
+module _ (ts : List Transaction) where
+  pub none_waits : position is_assigned ts ≡ None → turn_or ts ≡ Ok tt
+  none_waits none =
+      let n = position_or_len is_assigned ts in
+      let past : length ts ≤ n = ltb-false n (length ts) (none_by (ltb n (length ts)) n none) in
+      let zero_is : count_by is_assigned ts ≡ 0 = none-count ts (λ k l. fails_before_first is_assigned ts k Idle (omega arith)) in
+      ap (λ (k : ℕ). cond (eqb k 0) (Ok tt) (Err (StillAssigned (first_assigned 0 ts) k))) zero_is
+
+  pub first_waits : (i : ℕ) → position is_assigned ts ≡ Some i → turn_or ts ≡ Err (StillAssigned i (count_by is_assigned ts))
+  first_waits i found =
+      let at = position-Some is_assigned ts i Idle found in
+      let some : eqb (count_by is_assigned ts) 0 ≡ false =
+      ne_eqb (count_by is_assigned ts) 0 (λ e. omega (arith, get_or-le-sum_by {X = Transaction} (λ y. cond (is_assigned y) 1 0) ts i Idle at.0, ap {B = ℕ} (λ (q : Bool). cond q 1 0) at.1)) in
+      let first : first_assigned 0 ts ≡ i = first-is ts ∙ some_by (ltb (position_or_len is_assigned ts) (length ts)) (position_or_len is_assigned ts) i found in
+      ap (λ (q : Bool). cond q (Ok tt) (Err (StillAssigned (first_assigned 0 ts) (count_by is_assigned ts)))) some
+      ∙ ap (λ (k : ℕ). Err (StillAssigned k (count_by is_assigned ts))) first
 
 counted_by : (q : Bool) (f : LedgerFault) (a : Answer) → cond q a (Refused (refusal_of f)) ≡ and_then {X = Unit {0}} (cond q (Ok tt) (Err f)) (λ _. a)
 counted_by true f a = refl

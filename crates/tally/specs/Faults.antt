@@ -1,5 +1,5 @@
 -- Every refusal of the ledger in numbers, and the answer that a result means.
-use Rattle.std.specs.Prelude.{ℕ, Some, Ok, Err, Result}
+use Rattle.std.specs.Prelude.{ℕ, Ok, Err, Result}
 use Rattle.orders.specs.declared.answer.Answer.{Answer}
 use Rattle.orders.specs.declared.answer.Answer.TheVariants.{Done, Refused, Told}
 use Rattle.orders.specs.declared.answer.Figures.{Figures}
@@ -23,17 +23,6 @@ refusal_of (NoSuchRecord t r n) = of_transactions 9 r n
 refusal_of (SizeTooLarge t s) = of_transactions 10 s 16
 refusal_of (StillAssigned t n) = of_transactions 11 t n
 refusal_of (InTree f t) = tree_refusal_of f
-
--- a refusal of the tree with its transaction
-abbrev pub of : LedgerFault → ℕ → LedgerFault
-of (NoSuchTransaction t) n = NoSuchTransaction t
-of (WrongState t s) n = WrongState t s
-of (BadCount t held) n = BadCount t held
-of (NoneLeft t) n = NoneLeft t
-of (NoSuchRecord t r k) n = NoSuchRecord t r k
-of (SizeTooLarge t s) n = SizeTooLarge t s
-of (StillAssigned t k) n = StillAssigned t k
-of (InTree f t) n = InTree f (Some n)
 
 abbrev pub answer_of : Result ℕ LedgerFault → Answer
 answer_of (Ok v) = Done v

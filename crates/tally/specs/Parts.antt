@@ -12,6 +12,8 @@ use Rattle.rules.specs.Effects.{next}
 use Rattle.rules.specs.Journal.{book_after}
 use Rattle.tally.specs.declared.Tally.{Tally}
 use Rattle.tally.specs.declared.fault.LedgerFault.{LedgerFault}
+use Rattle.tally.specs.declared.records.Freed.{Freed}
+use Rattle.tally.specs.declared.records.Resized.{Resized}
 use Rattle.tally.specs.Faults.{refusal_of}
 use Rattle.tally.specs.Joined.{book_in, figures_in}
 
@@ -56,13 +58,18 @@ pub record Fresh (size slop worst : ℕ) (t : Tally) : Type 0 where
   pub worst_is : t.worst ≡ worst
   pub book_is : book_of t ≡ fresh
 
--- the volume of a record that was emptied, and the units deferred
-abbrev pub freed_of : Result (ℕ × ℕ) LedgerFault → Answer
-freed_of (Ok freed) = Done freed.1
+-- the units that were deferred
+abbrev pub freed_of : Result Freed LedgerFault → Answer
+freed_of (Ok freed) = Done freed.units
 freed_of (Err f) = Refused (refusal_of f)
 
-abbrev pub OnVolume : Tally → ℕ → Result (ℕ × ℕ) LedgerFault → Type 0
-OnVolume t x (Ok freed) = freed.0 ≡ volume_of (transaction (book_of t) x)
+abbrev pub resized_of : Result Resized LedgerFault → Answer
+resized_of (Ok resized) = Done resized.units
+resized_of (Err f) = Refused (refusal_of f)
+
+-- the volume of a record that was emptied
+abbrev pub OnVolume : Tally → ℕ → Result Freed LedgerFault → Type 0
+OnVolume t x (Ok freed) = freed.volume ≡ volume_of (transaction (book_of t) x)
 OnVolume t x (Err f) = Unit {0}
 
 -- transaction x is assigned and has a write left, and its volume has record r
@@ -90,6 +97,6 @@ pub record Wrote (t t' : Tally) (x r n : ℕ) : Type 0 where
   pub booked : (cost : ℕ → ℕ) (s : ℕ) → cost s ≡ n → book_of t' ≡ next (figures_of cost t) (book_of t) (write x r s)
 
 -- how many records the volume had
-abbrev pub HadRecords : Tally → ℕ → Result (ℕ × ℕ) LedgerFault → Type 0
-HadRecords t v (Ok cut) = cut.0 ≡ records (book_of t) v
+abbrev pub HadRecords : Tally → ℕ → Result Resized LedgerFault → Type 0
+HadRecords t v (Ok resized) = resized.old ≡ records (book_of t) v
 HadRecords t v (Err f) = Unit {0}

@@ -13,7 +13,7 @@ impl Tally {
         ensures { Did self.old self.new (to_folder parent name) (answer_of result) }
     {
         let d = self.tree.add_folder(parent)?;
-        self.contents[d as usize] = empty(name, 0);
+        self.contents[usize::from(d)] = empty(name, 0);
         Ok(u16::from(d))
     }
 
@@ -22,7 +22,7 @@ impl Tally {
         ensures { Did self.old self.new (to_volume parent records name) (answer_of result) }
     {
         let d = self.tree.add_volume(parent, records)?;
-        self.contents[d as usize] = empty(name, records);
+        self.contents[usize::from(d)] = empty(name, records);
         Ok(u16::from(d))
     }
 
@@ -30,15 +30,13 @@ impl Tally {
     pub fn quota(&mut self, d: u8, units: u16) -> Result<u16, LedgerFault>
         ensures { Did self.old self.new (to_quota d units) (answer_of result) }
     {
-        let charge = self.tree.set_quota(d, units)?;
-        Ok(charge)
+        Ok(self.tree.set_quota(d, units)?)
     }
 
     /// Sets the reservation of a dataset, if all above it stay within their limits; its new weight.
     pub fn reserve(&mut self, d: u8, units: u16) -> Result<u16, LedgerFault>
         ensures { Did self.old self.new (to_reserve d units) (answer_of result) }
     {
-        let weight = self.tree.set_reservation(d, units)?;
-        Ok(weight)
+        Ok(self.tree.set_reservation(d, units)?)
     }
 }

@@ -1,6 +1,6 @@
 // Why the ledger refuses, as an enum and in numbers.
 ghost use Rattle.std.specs.Prelude.{◌≡◌, None};
-ghost use Rattle.tally.specs.Faults.{of, of_transactions, refusal_of};
+ghost use Rattle.tally.specs.Faults.{of_transactions, refusal_of};
 ghost use Rattle.tally.specs.declared.fault.LedgerFault.TheVariants.{InTree as in_tree};
 ghost use Rattle.rules.specs.Book.{state_number};
 
@@ -9,7 +9,7 @@ use rules::state::Transaction;
 use tree::fault::TreeFault;
 
 /// The refusals of the ledger.
-#[derive(Clone, Copy)]
+#[derive(Clone, Copy, Debug, PartialEq, Eq)]
 pub enum LedgerFault {
     /// There are 32 transactions.
     NoSuchTransaction {
@@ -52,12 +52,12 @@ pub enum LedgerFault {
     },
 }
 
-impl LedgerFault {
-    /// This fault in numbers.
-    pub fn refusal(self) -> Refusal
-        ensures { result ≡ refusal_of self }
-    {
-        match self {
+/// A fault in numbers.
+impl From<LedgerFault> for Refusal {
+    ghost from_gives = { λ fault refusal. refusal ≡ refusal_of fault };
+
+    fn from(fault: LedgerFault) -> Refusal {
+        match fault {
             LedgerFault::NoSuchTransaction { transaction } => of_transactions(5, transaction, 0),
             LedgerFault::WrongState { transaction, state } => {
                 of_transactions(6, transaction, state_number(state))
@@ -82,22 +82,6 @@ impl LedgerFault {
                 fault,
                 transaction: _,
             } => Refusal::from(fault),
-        }
-    }
-
-    // Fills in the transaction of a refusal of the tree.
-    pub(crate) fn of(self, transaction: u8) -> LedgerFault
-        ensures { result ≡ of self transaction }
-    {
-        match self {
-            LedgerFault::InTree {
-                fault,
-                transaction: _,
-            } => LedgerFault::InTree {
-                fault,
-                transaction: Some(transaction),
-            },
-            other => other,
         }
     }
 }

@@ -10,7 +10,7 @@ mod datasets;
 pub mod fault;
 mod figures;
 mod making;
-mod records;
+pub mod records;
 mod step;
 mod transact;
 mod turning;

@@ -1,13 +1,12 @@
 // How a transaction goes from state to state.
 ghost use Rattle.std.specs.Prelude.{◌≡◌, ◌+◌, ◌-◌};
 ghost use Rattle.rules.specs.Book.{volume_of, writes_of};
-ghost use Rattle.rules.specs.declared.state.Transaction.TheVariants.{Assigned as assigned_with, Held as held_with};
 ghost use Rattle.tally.specs.Steps.{counted_or, left_or, step_of};
 
 use super::fault::LedgerFault;
 use rules::state::Transaction;
 
-// What is asked of a transaction.
+// What is asked of a transaction. One match of states and orders shows every pair, as the rules' table does; closures, one for each order, would take it apart.
 #[derive(Clone, Copy)]
 pub(crate) enum Asked {
     Begin { volume: u8 },
@@ -34,7 +33,12 @@ pub(crate) fn step(t: u8, state: Transaction, asked: Asked) -> Result<Transactio
     match (state, asked) {
         (Transaction::Idle, Asked::Begin { volume }) => Ok(Transaction::Created { volume }),
         (Transaction::Created { volume }, Asked::HoldWrites { count }) => {
-            more_writes(t, volume, 0, 0, count)
+            let writes = counted(t, 0, count)?;
+            Ok(Transaction::Held {
+                volume,
+                writes,
+                frees: 0,
+            })
         }
         (
             Transaction::Held {
@@ -43,9 +47,21 @@ pub(crate) fn step(t: u8, state: Transaction, asked: Asked) -> Result<Transactio
                 frees,
             },
             Asked::HoldWrites { count },
-        ) => { more_writes(t, volume, writes, frees, count) }
+        ) => {
+            let writes = counted(t, writes, count)?;
+            Ok(Transaction::Held {
+                volume,
+                writes,
+                frees,
+            })
+        }
         (Transaction::Created { volume }, Asked::HoldFrees { count }) => {
-            more_frees(t, volume, 0, 0, count)
+            let frees = counted(t, 0, count)?;
+            Ok(Transaction::Held {
+                volume,
+                writes: 0,
+                frees,
+            })
         }
         (
             Transaction::Held {
@@ -54,7 +70,14 @@ pub(crate) fn step(t: u8, state: Transaction, asked: Asked) -> Result<Transactio
                 frees,
             },
             Asked::HoldFrees { count },
-        ) => { more_frees(t, volume, writes, frees, count) }
+        ) => {
+            let frees = counted(t, frees, count)?;
+            Ok(Transaction::Held {
+                volume,
+                writes,
+                frees,
+            })
+        }
         (
             Transaction::Held {
                 volume,
@@ -78,7 +101,14 @@ pub(crate) fn step(t: u8, state: Transaction, asked: Asked) -> Result<Transactio
                 frees,
             },
             Asked::Write,
-        ) => { spend_write(t, volume, writes, frees) }
+        ) => {
+            let writes = spent(t, writes)?;
+            Ok(Transaction::Assigned {
+                volume,
+                writes,
+                frees,
+            })
+        }
         (
             Transaction::Assigned {
                 volume,
@@ -86,7 +116,14 @@ pub(crate) fn step(t: u8, state: Transaction, asked: Asked) -> Result<Transactio
                 frees,
             },
             Asked::Free,
-        ) => { spend_free(t, volume, writes, frees) }
+        ) => {
+            let frees = spent(t, frees)?;
+            Ok(Transaction::Assigned {
+                volume,
+                writes,
+                frees,
+            })
+        }
         (Transaction::Assigned { .. }, Asked::Commit) => Ok(Transaction::Idle),
         _ => Err(LedgerFault::WrongState {
             transaction: t,
@@ -109,64 +146,12 @@ fn counted(t: u8, held: u8, count: u8) -> Result<u8, LedgerFault>
     Ok(total as u8)
 }
 
-fn more_writes(
-    t: u8,
-    volume: u8,
-    writes: u8,
-    frees: u8,
-    count: u8,
-) -> Result<Transaction, LedgerFault>
-    ensures { result ≡ counted_or t writes count (held_with volume (writes + count) frees) }
+// How many are left once one is spent.
+fn spent(t: u8, left: u8) -> Result<u8, LedgerFault>
+    ensures { result ≡ left_or t left (left - 1) }
 {
-    let writes = counted(t, writes, count)?;
-    Ok(Transaction::Held {
-        volume,
-        writes,
-        frees,
-    })
-}
-
-fn more_frees(
-    t: u8,
-    volume: u8,
-    writes: u8,
-    frees: u8,
-    count: u8,
-) -> Result<Transaction, LedgerFault>
-    ensures { result ≡ counted_or t frees count (held_with volume writes (frees + count)) }
-{
-    let frees = counted(t, frees, count)?;
-    Ok(Transaction::Held {
-        volume,
-        writes,
-        frees,
-    })
-}
-
-fn spend_write(t: u8, volume: u8, writes: u8, frees: u8) -> Result<Transaction, LedgerFault>
-    ensures { result ≡ left_or t writes (assigned_with volume (writes - 1) frees) }
-{
-    if writes == 0 {
-        return Err(LedgerFault::NoneLeft { transaction: t });
-    }
-    Ok(Transaction::Assigned {
-        volume,
-        writes: writes - 1,
-        frees,
-    })
-}
-
-fn spend_free(t: u8, volume: u8, writes: u8, frees: u8) -> Result<Transaction, LedgerFault>
-    ensures { result ≡ left_or t frees (assigned_with volume writes (frees - 1)) }
-{
-    if frees == 0 {
-        return Err(LedgerFault::NoneLeft { transaction: t });
-    }
-    Ok(Transaction::Assigned {
-        volume,
-        writes,
-        frees: frees - 1,
-    })
+    left.checked_sub(1)
+        .ok_or(LedgerFault::NoneLeft { transaction: t })
 }
 
 // The volume of a transaction, 0 where it has none.
@@ -175,9 +160,9 @@ pub(crate) fn volume_of(state: Transaction) -> u8
 {
     match state {
         Transaction::Idle => 0,
-        Transaction::Created { volume } => volume,
-        Transaction::Held { volume, .. } => volume,
-        Transaction::Assigned { volume, .. } => volume,
+        Transaction::Created { volume }
+        | Transaction::Held { volume, .. }
+        | Transaction::Assigned { volume, .. } => volume,
     }
 }
 
@@ -186,9 +171,7 @@ pub(crate) fn writes_of(state: Transaction) -> u8
     ensures { result ≡ writes_of state }
 {
     match state {
-        Transaction::Idle => 0,
-        Transaction::Created { .. } => 0,
-        Transaction::Held { writes, .. } => writes,
-        Transaction::Assigned { writes, .. } => writes,
+        Transaction::Idle | Transaction::Created { .. } => 0,
+        Transaction::Held { writes, .. } | Transaction::Assigned { writes, .. } => writes,
     }
 }

@@ -1,28 +1,37 @@
 // Orders on transactions.
-ghost use Rattle.std.specs.Prelude.{◌≡◌, ◌*◌, ◌<◌, ◌≤◌, slice_set};
+ghost use Rattle.std.specs.Prelude.{◌≡◌, ◌*◌, ◌<◌, Some as some, slice_set};
 ghost use Rattle.orders.specs.Meaning.{abort as to_abort, assign as to_assign, begin as to_begin, commit as to_commit, hold_frees as to_hold_frees, hold_writes as to_hold_writes};
 ghost use Rattle.rules.specs.Book.{writes_of};
 ghost use Rattle.tally.specs.Faults.{answer_of};
 ghost use Rattle.tally.specs.Parts.{Did, Put};
 ghost use Rattle.tally.specs.Sound.{Sound};
-ghost use Rattle.tally.specs.Steps.{as_volume_of, change_of};
+ghost use Rattle.tally.specs.Steps.{change_of, lifted};
 
 use super::Tally;
 use super::fault::LedgerFault;
 use super::step::{Asked, Change, step, volume_of, writes_of};
 use rules::state::Transaction;
 use tree::Tree;
+use tree::fault::TreeFault;
 
-// The most that so many writes may cost.
-pub(crate) fn estimate(writes: u8, worst: u16) -> u16
-    requires few { writes ≤ 64 }
-    requires cheap { worst ≤ 64 }
-    ensures { result ≡ writes * worst }
+// A refusal of the tree, with the transaction of the order.
+fn in_transaction(t: u8, res: Result<(), TreeFault>) -> Result<(), LedgerFault>
+    ensures { result ≡ lifted (some t) res }
 {
-    u16::from(writes) * worst
+    res.map_err(|fault| LedgerFault::InTree {
+        fault,
+        transaction: Some(t),
+    })
 }
 
 impl Tally {
+    // The most that a transaction's writes may cost.
+    pub(crate) fn estimate(&self, state: Transaction) -> u16
+        ensures { result ≡ writes_of state * self.now.worst }
+    {
+        u16::from(writes_of(state)) * self.worst
+    }
+
     // The transaction's state, and the one that it is to have.
     pub(crate) fn change(&self, t: u8, asked: Asked) -> Result<Change, LedgerFault>
         ensures { result ≡ change_of self.now.transactions t asked }
@@ -30,19 +39,9 @@ impl Tally {
         if t > 31 {
             return Err(LedgerFault::NoSuchTransaction { transaction: t });
         }
-        let before = self.transactions[t as usize];
+        let before = self.transactions[usize::from(t)];
         let after = step(t, before, asked)?;
         Ok(Change { before, after })
-    }
-
-    // There is such a volume, for a transaction to be on.
-    fn volume_for(&self, t: u8, volume: u8) -> Result<(), LedgerFault>
-        ensures { result ≡ as_volume_of self.now.tree t volume }
-    {
-        match self.tree.volume(volume) {
-            Ok(()) => Ok(()),
-            Err(fault) => Err(LedgerFault::from(fault).of(t)),
-        }
     }
 
     fn put(&mut self, t: u8, state: Transaction)
@@ -50,7 +49,7 @@ impl Tally {
         requires sound { ∥ Sound self.old.size self.old.slop self.old.worst self.old.tree self.old.contents (slice_set self.old.transactions t state) ∥₁ }
         ensures { Put self.old self.new t state }
     {
-        self.transactions[t as usize] = state;
+        self.transactions[usize::from(t)] = state;
     }
 
     /// Opens a transaction on a volume; the worst cost of a write.
@@ -58,7 +57,7 @@ impl Tally {
         ensures { Did self.old self.new (to_begin t volume) (answer_of result) }
     {
         let change = self.change(t, Asked::Begin { volume })?;
-        self.volume_for(t, volume)?;
+        in_transaction(t, self.tree.volume(volume))?;
         self.put(t, change.after);
         Ok(self.worst)
     }
@@ -68,7 +67,7 @@ impl Tally {
         ensures { Did self.old self.new (to_hold_writes t count) (answer_of result) }
     {
         let change = self.change(t, Asked::HoldWrites { count })?;
-        let units = estimate(writes_of(change.after), self.worst);
+        let units = self.estimate(change.after);
         self.put(t, change.after);
         Ok(units)
     }
@@ -78,7 +77,7 @@ impl Tally {
         ensures { Did self.old self.new (to_hold_frees t count) (answer_of result) }
     {
         let change = self.change(t, Asked::HoldFrees { count })?;
-        let units = estimate(writes_of(change.after), self.worst);
+        let units = self.estimate(change.after);
         self.put(t, change.after);
         Ok(units)
     }
@@ -88,7 +87,7 @@ impl Tally {
         ensures { Did self.old self.new (to_abort t) (answer_of result) }
     {
         let change = self.change(t, Asked::Abort)?;
-        let units = estimate(writes_of(change.before), self.worst);
+        let units = self.estimate(change.before);
         self.put(t, change.after);
         Ok(units)
     }
@@ -98,11 +97,9 @@ impl Tally {
         ensures { Did self.old self.new (to_assign t) (answer_of result) }
     {
         let change = self.change(t, Asked::Assign)?;
-        let units = estimate(writes_of(change.after), self.worst);
-        if let Err(fault) = self.tree.raise(volume_of(change.after), units) {
-            return Err(LedgerFault::from(fault).of(t));
-        }
-        self.transactions[t as usize] = change.after;
+        let units = self.estimate(change.after);
+        in_transaction(t, self.tree.raise(volume_of(change.after), units))?;
+        self.transactions[usize::from(t)] = change.after;
         Ok(units)
     }
 
@@ -111,11 +108,11 @@ impl Tally {
         ensures { Did self.old self.new (to_commit t) (answer_of result) }
     {
         let change = self.change(t, Asked::Commit)?;
-        let units = estimate(writes_of(change.before), self.worst);
-        if let Err(fault) = self.tree.lower(volume_of(change.before), units) {
-            return Err(LedgerFault::from(fault).of(t));
-        }
-        self.transactions[t as usize] = change.after;
+        let units = self.estimate(change.before);
+        let Ok(()) = self.tree.lower(volume_of(change.before), units) else {
+            unreachable()
+        };
+        self.transactions[usize::from(t)] = change.after;
         Ok(units)
     }
 }

@@ -1,7 +1,6 @@
 // The turn: what was deferred is given back.
-ghost use Rattle.std.specs.Prelude.{◌≡◌, ◌<◌, ◌≤◌, length, count_by};
+ghost use Rattle.std.specs.Prelude.{◌≡◌, ◌<◌, ◌≤◌, length, count_by, position};
 ghost use Rattle.orders.specs.Meaning.{turn as to_turn};
-ghost use Rattle.rules.specs.Answers.{first_assigned};
 ghost use Rattle.rules.specs.Book.{is_assigned};
 ghost use Rattle.tally.specs.Faults.{answer_of};
 ghost use Rattle.tally.specs.Parts.{Did};
@@ -10,15 +9,13 @@ ghost use Rattle.tally.specs.Turns.{Settled, turn_or};
 use super::Tally;
 use super::fault::LedgerFault;
 use rules::state::Transaction;
+use std::mem;
 use tree::Tree;
 
 fn is_assigned(state: Transaction) -> bool
     ensures { result ≡ is_assigned state }
 {
-    match state {
-        Transaction::Assigned { .. } => true,
-        _ => false,
-    }
+    matches!(state, Transaction::Assigned { .. })
 }
 
 // How many are assigned.
@@ -26,38 +23,30 @@ fn count_assigned(transactions: &[Transaction]) -> u8
     requires { length transactions.now ≤ 32 }
     ensures { result ≡ count_by is_assigned transactions.now }
 {
-    let mut count = 0;
-    for state in transactions {
-        count += u8::from(is_assigned(*state));
-    }
-    count
+    transactions
+        .iter()
+        .filter(|state| is_assigned(**state))
+        .count() as u8
 }
 
-// The first that is assigned.
-fn first_assigned(transactions: &[Transaction]) -> u8
-    requires { length transactions.now ≤ 32 }
-    ensures { result ≡ first_assigned 0 transactions.now }
+// The first that is assigned, where one is.
+fn first_assigned(transactions: &[Transaction]) -> Option<usize>
+    ensures { result ≡ position is_assigned transactions.now }
 {
-    let mut first = 0;
-    for state in transactions {
-        if is_assigned(*state) {
-            return first;
-        }
-        first += 1;
-    }
-    first
+    transactions.iter().position(|state| is_assigned(*state))
 }
 
 impl Tally {
     fn none_assigned(&self) -> Result<(), LedgerFault>
         ensures { result ≡ turn_or self.now.transactions }
     {
-        let count = count_assigned(&self.transactions);
-        if count > 0 {
-            let lowest = first_assigned(&self.transactions);
-            return Err(LedgerFault::StillAssigned { lowest, count });
+        match first_assigned(&self.transactions) {
+            None => Ok(()),
+            Some(lowest) => Err(LedgerFault::StillAssigned {
+                lowest: lowest as u8,
+                count: count_assigned(&self.transactions),
+            }),
         }
-        Ok(())
     }
 
     // Gives back what one dataset has deferred; how much that is.
@@ -65,12 +54,11 @@ impl Tally {
         requires { d < 64 }
         ensures { Settled self.old self.new d result }
     {
-        let units = self.contents[d as usize].deferred;
-        if let Err(_) = self.tree.lower(d, units) {
+        let contents = &mut self.contents[usize::from(d)];
+        if let Err(_) = self.tree.lower(d, contents.deferred) {
             return 0;
         }
-        self.contents[d as usize].deferred = 0;
-        units
+        mem::take(&mut contents.deferred)
     }
 
     /// Gives back all deferred units, where no transaction is assigned; how many they are.
@@ -79,6 +67,7 @@ impl Tally {
     {
         self.none_assigned()?;
         let mut given = 0;
+        // by number: a step changes both the tree and what a dataset holds, so a closure that a chain calls would hide it from the proof
         for d in 0..64 {
             given += self.settle(d);
         }

@@ -1,42 +1,41 @@
-use Rattle.std.proofs.Common.{◌*◌, sym, refl, ap, ◌∙◌, arith}
-use Rattle.tally.specs.declared.fault.LedgerFault.{LedgerFault}
-use Rattle.tally.specs.Faults.{of}
+use Rattle.std.proofs.Common.{ℕ, Some, set, sym, refl, ap, ◌∙◌}
+use Rattle.std.proofs.lemmas.Result.{err_from_is_err_and}
+use Rattle.tally.specs.Joined.{book_in}
 use Rattle.tally.proofs.Sounds.{unmoved, refused_as, done_did}
-use Rattle.tally.proofs.Grants.{assign-few, assign-refused, assign-done, assign-book, assign-sound}
+use Rattle.tally.proofs.Grants.{refused_in, granted_in, assign-refused, assign-done, assign-book, assign-sound}
 use Rattle.tally.proofs.Tally.assign.Goals as goal
 
-pub estimate-units-requires : goal.estimate-units-requires
-estimate-units-requires c =
-    let f = assign-few c.args.self.now c.args.t c.in_ok-change.change (sym c.in_ok-change.ensures) in
-    record { few = omega (arith, c.writes_of.ensures); cheap = omega (arith, c.args.self.now.sized) }
-
-pub returns-in-Err : goal.returns-in-Err
-returns-in-Err c =
-    refused_as _ _ _ c.of.result _ (c.of.ensures ∙ ap (λ (f : LedgerFault). of f c.args.t) c.from.ensures)
+pub returns-in_err-in_transaction : goal.returns-in_err-in_transaction
+returns-in_err-in_transaction c =
+    let p = err_from_is_err_and c.from_residual-in_err-in_transaction.result c.from_residual-in_err-in_transaction.ensures.1 in
+    let r = refused_in (Some c.args.t) c.raise.result c.in_err-in_transaction.field-0.0 c.in_err-in_transaction.ensures in
+    rw (p.1, p.2)
+    (refused_as _ _ _ _ _ r.is
     (assign-refused c.args.self.now c.args.t c.in_ok-change.change (sym c.in_ok-change.ensures)
-    c.volume_of.result c.estimate-units.result c.volume_of.ensures
-    (c.estimate-units.ensures ∙ ap (λ w. w * c.args.self.now.worst) c.writes_of.ensures)
-    _ c.in-Err.fault (sym c.in-Err.ensures.answer) (unmoved c.args.self.now _ refl refl refl c.in-Err.ensures.after refl refl))
+    c.volume_of.result c.estimate-units.result c.volume_of.ensures c.estimate-units.ensures
+    _ r.fault (sym c.raise.ensures.answer ∙ r.was) (unmoved c.args.self.now _ refl refl refl (rw r.was at c.raise.ensures.after) refl refl)))
 
 pub invariant_of-self-2 : goal.invariant_of-self-2
-invariant_of-self-2 c = record {
-  sized = c.args.self.now.sized;
-  sound =
-      assign-sound c.args.self.now c.args.t c.in_ok-change.change (sym c.in_ok-change.ensures)
-      c.volume_of.result c.estimate-units.result c.volume_of.ensures
-      (c.estimate-units.ensures ∙ ap (λ w. w * c.args.self.now.worst) c.writes_of.ensures)
-      (sym c.in_default.ensures.answer) c.raise.new.self c.in_default.ensures.after;
-}
+invariant_of-self-2 c =
+    let r = granted_in (Some c.args.t) c.raise.result c.in_ok-in_transaction.ensures in
+    record {
+      sized = c.args.self.now.sized;
+      sound =
+          rw c.from.ensures
+          (assign-sound c.args.self.now c.args.t c.in_ok-change.change (sym c.in_ok-change.ensures)
+          c.volume_of.result c.estimate-units.result c.volume_of.ensures c.estimate-units.ensures
+          (sym c.raise.ensures.answer ∙ r) c.raise.new.self (rw r at c.raise.ensures.after));
+    }
 
 pub returns : goal.returns
 returns c =
+    let r = granted_in (Some c.args.t) c.raise.result c.in_ok-in_transaction.ensures in
     done_did c.args.self.now _ _ c.estimate-units.result
     (assign-done c.args.self.now c.args.t c.in_ok-change.change (sym c.in_ok-change.ensures)
-    c.volume_of.result c.estimate-units.result c.volume_of.ensures
-    (c.estimate-units.ensures ∙ ap (λ w. w * c.args.self.now.worst) c.writes_of.ensures)
-    (sym c.in_default.ensures.answer))
-    (assign-book c.args.self.now c.args.t c.in_ok-change.change (sym c.in_ok-change.ensures)
-    c.volume_of.result c.estimate-units.result c.volume_of.ensures
-    (c.estimate-units.ensures ∙ ap (λ w. w * c.args.self.now.worst) c.writes_of.ensures)
-    (sym c.in_default.ensures.answer) c.raise.new.self c.in_default.ensures.after)
+    c.volume_of.result c.estimate-units.result c.volume_of.ensures c.estimate-units.ensures (sym c.raise.ensures.answer ∙ r))
+    (λ cost.
+    ap (λ (i : ℕ). book_in c.raise.new.self c.args.self.now.contents (set c.args.self.now.transactions i c.in_ok-change.change.after)) c.from.ensures
+    ∙ assign-book c.args.self.now c.args.t c.in_ok-change.change (sym c.in_ok-change.ensures)
+    c.volume_of.result c.estimate-units.result c.volume_of.ensures c.estimate-units.ensures
+    (sym c.raise.ensures.answer ∙ r) c.raise.new.self (rw r at c.raise.ensures.after) cost)
     (record { size = refl; slop = refl; worst = refl })

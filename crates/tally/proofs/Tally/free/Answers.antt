@@ -1,6 +1,7 @@
-use Rattle.std.proofs.Common.{sym, refl, ap, ◌∙◌}
+use Rattle.std.proofs.Common.{ℕ, set, sym, refl, ap, ◌∙◌}
 use Rattle.std.proofs.lemmas.Result.{err_from_is_err_and}
 use Rattle.orders.specs.declared.answer.Answer.TheVariants.{Done}
+use Rattle.tally.specs.Joined.{book_in}
 use Rattle.tally.proofs.Sounds.{done_did}
 use Rattle.tally.proofs.Writes.{free-volume, free_table, free-refused, free-done, free-inside, free-fits, free-book, free-sound}
 use Rattle.tally.proofs.Tally.free.Goals as goal
@@ -18,21 +19,23 @@ returns-in_err-check_record c =
       volume = tt;
     })
 
-pub bounds-self-volume : goal.bounds-self-volume
-bounds-self-volume c =
-    free_table c.args.self.now c.args.t c.args.number c.in_ok-change.change (sym c.in_ok-change.ensures) c.volume_of-volume.result c.volume_of-volume.ensures
+pub bounds-self-from : goal.bounds-self-from
+bounds-self-from c =
+    rw c.from.ensures
+    (free_table c.args.self.now c.args.t c.args.number c.in_ok-change.change (sym c.in_ok-change.ensures) c.volume_of-volume.result c.volume_of-volume.ensures)
 
 pub empty_record-units-requires : goal.empty_record-units-requires
 empty_record-units-requires c = record {
-  inside = free-inside c.args.self.now c.args.t c.args.number c.in_ok-change.change (sym c.in_ok-change.ensures) c.volume_of-volume.result c.volume_of-volume.ensures (sym c.in_ok-check_record.ensures);
-  fits = free-fits c.args.self.now c.args.t c.args.number c.in_ok-change.change (sym c.in_ok-change.ensures) c.volume_of-volume.result c.volume_of-volume.ensures (sym c.in_ok-check_record.ensures);
+  inside = rw c.from.ensures (free-inside c.args.self.now c.args.t c.args.number c.in_ok-change.change (sym c.in_ok-change.ensures) c.volume_of-volume.result c.volume_of-volume.ensures (sym c.in_ok-check_record.ensures));
+  fits = rw c.from.ensures (free-fits c.args.self.now c.args.t c.args.number c.in_ok-change.change (sym c.in_ok-change.ensures) c.volume_of-volume.result c.volume_of-volume.ensures (sym c.in_ok-check_record.ensures));
 }
 
 pub invariant_of-self : goal.invariant_of-self
 invariant_of-self c = record {
   sized = c.args.self.now.sized;
   sound =
-      free-sound c.args.self.now c.args.t c.args.number c.in_ok-change.change (sym c.in_ok-change.ensures) c.volume_of-volume.result c.volume_of-volume.ensures (sym c.in_ok-check_record.ensures) _ c.empty_record-units.ensures.after;
+      rw (c.from.ensures, c.from-2.ensures)
+      (free-sound c.args.self.now c.args.t c.args.number c.in_ok-change.change (sym c.in_ok-change.ensures) c.volume_of-volume.result c.volume_of-volume.ensures (sym c.in_ok-check_record.ensures) _ (rw c.from.ensures at c.empty_record-units.ensures.after));
 }
 
 pub returns : goal.returns
@@ -41,8 +44,11 @@ returns c = record {
       done_did c.args.self.now _ _ c.empty_record-units.result
       (λ cost.
       free-done c.args.self.now c.args.t c.args.number c.in_ok-change.change (sym c.in_ok-change.ensures) c.volume_of-volume.result c.volume_of-volume.ensures (sym c.in_ok-check_record.ensures) cost
-      ∙ ap Done (sym c.empty_record-units.ensures.units))
-      (free-book c.args.self.now c.args.t c.args.number c.in_ok-change.change (sym c.in_ok-change.ensures) c.volume_of-volume.result c.volume_of-volume.ensures (sym c.in_ok-check_record.ensures) _ c.empty_record-units.ensures.after)
+      ∙ ap Done (sym (rw c.from.ensures at c.empty_record-units.ensures.units)))
+      (λ cost.
+      ap (λ (i : ℕ). book_in c.args.self.now.tree (set c.args.self.now.contents i c.empty_record-units.new.contents) (set c.args.self.now.transactions c.from-2.result c.in_ok-change.change.after)) c.from.ensures
+      ∙ ap (λ (i : ℕ). book_in c.args.self.now.tree (set c.args.self.now.contents c.volume_of-volume.result c.empty_record-units.new.contents) (set c.args.self.now.transactions i c.in_ok-change.change.after)) c.from-2.ensures
+      ∙ free-book c.args.self.now c.args.t c.args.number c.in_ok-change.change (sym c.in_ok-change.ensures) c.volume_of-volume.result c.volume_of-volume.ensures (sym c.in_ok-check_record.ensures) _ (rw c.from.ensures at c.empty_record-units.ensures.after) cost)
       (record { size = refl; slop = refl; worst = refl });
   volume = free-volume c.args.self.now c.args.t c.args.number c.in_ok-change.change (sym c.in_ok-change.ensures) c.volume_of-volume.result c.volume_of-volume.ensures;
 }

@@ -12,18 +12,18 @@ invariant_of-self c = record {
       c.set_quota.ensures.after (omega arith);
 }
 
-pub returns-in_err-charge : goal.returns-in_err-charge
-returns-in_err-charge c =
+pub returns-in_err-set_quota : goal.returns-in_err-set_quota
+returns-in_err-set_quota c =
     let p = err_from_is_err_and c.from_residual.result c.from_residual.ensures.1 in
     rw p.1
     (refused_as _ _ _ p.0 _ p.2
-    (quota-refused c.args.self.now c.args.d c.args.units _ c.in_err-charge.field-0.0 (sym c.in_err-charge.ensures.answer)
-    (unmoved c.args.self.now _ refl refl refl c.in_err-charge.ensures.after refl refl)))
+    (quota-refused c.args.self.now c.args.d c.args.units _ c.in_err-set_quota.field-0.0 (sym c.in_err-set_quota.ensures.answer)
+    (unmoved c.args.self.now _ refl refl refl c.in_err-set_quota.ensures.after refl refl)))
 
 pub returns : goal.returns
 returns c =
-    done_did c.args.self.now _ _ c.in_ok-charge.charge
-    (quota-done c.args.self.now c.args.d c.args.units c.in_ok-charge.charge (sym c.in_ok-charge.ensures.answer))
-    (quota-book c.args.self.now c.args.d c.args.units c.in_ok-charge.charge (sym c.in_ok-charge.ensures.answer)
-    c.set_quota.new.self c.in_ok-charge.ensures.after)
+    done_did c.args.self.now _ _ c.in_ok-set_quota.field-0
+    (quota-done c.args.self.now c.args.d c.args.units c.in_ok-set_quota.field-0 (sym c.in_ok-set_quota.ensures.answer))
+    (quota-book c.args.self.now c.args.d c.args.units c.in_ok-set_quota.field-0 (sym c.in_ok-set_quota.ensures.answer)
+    c.set_quota.new.self c.in_ok-set_quota.ensures.after)
     (record { size = refl; slop = refl; worst = refl })

@@ -12,18 +12,18 @@ invariant_of-self c = record {
       c.set_reservation.ensures.after (omega arith);
 }
 
-pub returns-in_err-weight : goal.returns-in_err-weight
-returns-in_err-weight c =
+pub returns-in_err-set_reservation : goal.returns-in_err-set_reservation
+returns-in_err-set_reservation c =
     let p = err_from_is_err_and c.from_residual.result c.from_residual.ensures.1 in
     rw p.1
     (refused_as _ _ _ p.0 _ p.2
-    (reserve-refused c.args.self.now c.args.d c.args.units _ c.in_err-weight.field-0.0 (sym c.in_err-weight.ensures.answer)
-    (unmoved c.args.self.now _ refl refl refl c.in_err-weight.ensures.after refl refl)))
+    (reserve-refused c.args.self.now c.args.d c.args.units _ c.in_err-set_reservation.field-0.0 (sym c.in_err-set_reservation.ensures.answer)
+    (unmoved c.args.self.now _ refl refl refl c.in_err-set_reservation.ensures.after refl refl)))
 
 pub returns : goal.returns
 returns c =
-    done_did c.args.self.now _ _ c.in_ok-weight.weight
-    (reserve-done c.args.self.now c.args.d c.args.units c.in_ok-weight.weight (sym c.in_ok-weight.ensures.answer))
-    (reserve-book c.args.self.now c.args.d c.args.units c.in_ok-weight.weight (sym c.in_ok-weight.ensures.answer)
-    c.set_reservation.new.self c.in_ok-weight.ensures.after)
+    done_did c.args.self.now _ _ c.in_ok-set_reservation.field-0
+    (reserve-done c.args.self.now c.args.d c.args.units c.in_ok-set_reservation.field-0 (sym c.in_ok-set_reservation.ensures.answer))
+    (reserve-book c.args.self.now c.args.d c.args.units c.in_ok-set_reservation.field-0 (sym c.in_ok-set_reservation.ensures.answer)
+    c.set_reservation.new.self c.in_ok-set_reservation.ensures.after)
     (record { size = refl; slop = refl; worst = refl })

@@ -1,5 +1,6 @@
-use Rattle.std.proofs.Common.{sym, refl}
+use Rattle.std.proofs.Common.{ℕ, set, sym, refl, ap, ◌∙◌}
 use Rattle.std.proofs.lemmas.Result.{err_from_is_err_and}
+use Rattle.tally.specs.Joined.{book_in}
 use Rattle.tally.proofs.Sounds.{refused_as, done_did}
 use Rattle.tally.proofs.Cuts.{resize_no_volume, resize-wrong-count, resize-few, resize-shaped, resize-fits, resize-old, resize-done, resize-book, resize-sound}
 use Rattle.tally.proofs.Tally.resize.Goals as goal
@@ -24,24 +25,27 @@ returns-in_err-check_records c =
 
 pub cut-units-requires : goal.cut-units-requires
 cut-units-requires c = record {
-  shaped = resize-shaped c.args.self.now c.args.volume c.args.records (sym c.in_ok-volume.ensures) (sym c.in_ok-check_records.ensures);
+  shaped = rw c.from.ensures (resize-shaped c.args.self.now c.args.volume c.args.records (sym c.in_ok-volume.ensures) (sym c.in_ok-check_records.ensures));
   few = resize-few c.args.self.now c.args.volume c.args.records (sym c.in_ok-volume.ensures) (sym c.in_ok-check_records.ensures);
-  fits = resize-fits c.args.self.now c.args.volume c.args.records (sym c.in_ok-volume.ensures) (sym c.in_ok-check_records.ensures);
+  fits = rw c.from.ensures (resize-fits c.args.self.now c.args.volume c.args.records (sym c.in_ok-volume.ensures) (sym c.in_ok-check_records.ensures));
 }
 
 pub invariant_of-self : goal.invariant_of-self
 invariant_of-self c = record {
   sized = c.args.self.now.sized;
   sound =
-      resize-sound c.args.self.now c.args.volume c.args.records (sym c.in_ok-volume.ensures) (sym c.in_ok-check_records.ensures) _ c.cut-units.ensures.after;
+      rw c.from.ensures
+      (resize-sound c.args.self.now c.args.volume c.args.records (sym c.in_ok-volume.ensures) (sym c.in_ok-check_records.ensures) _ (rw c.from.ensures at c.cut-units.ensures.after));
 }
 
 pub returns : goal.returns
 returns c = record {
   did =
       done_did c.args.self.now _ _ c.cut-units.result
-      (resize-done c.args.self.now c.args.volume c.args.records (sym c.in_ok-volume.ensures) (sym c.in_ok-check_records.ensures) c.cut-units.result c.cut-units.ensures.units)
-      (resize-book c.args.self.now c.args.volume c.args.records (sym c.in_ok-volume.ensures) (sym c.in_ok-check_records.ensures) _ c.cut-units.ensures.after)
+      (resize-done c.args.self.now c.args.volume c.args.records (sym c.in_ok-volume.ensures) (sym c.in_ok-check_records.ensures) c.cut-units.result (rw c.from.ensures at c.cut-units.ensures.units))
+      (λ cost.
+      ap (λ (i : ℕ). book_in c.args.self.now.tree (set c.args.self.now.contents i c.cut-units.new.contents) c.args.self.now.transactions) c.from.ensures
+      ∙ resize-book c.args.self.now c.args.volume c.args.records (sym c.in_ok-volume.ensures) (sym c.in_ok-check_records.ensures) _ (rw c.from.ensures at c.cut-units.ensures.after) cost)
       (record { size = refl; slop = refl; worst = refl });
-  old = resize-old c.args.self.now c.args.volume c.args.records (sym c.in_ok-volume.ensures) (sym c.in_ok-check_records.ensures);
+  old = rw c.from.ensures (resize-old c.args.self.now c.args.volume c.args.records (sym c.in_ok-volume.ensures) (sym c.in_ok-check_records.ensures));
 }

@@ -1,6 +1,8 @@
-use Rattle.std.proofs.Common.{sym, refl, ap, ◌∙◌}
+use Rattle.std.proofs.Common.{List, sym, refl, ap, ◌∙◌}
+use Rattle.std.proofs.lemmas.List.{set-get_or}
+use Rattle.rules.specs.declared.state.Contents.{Contents}
 use Rattle.tree.specs.declared.Tree.{Tree}
-use Rattle.tally.specs.Joined.{book_in}
+use Rattle.tally.specs.Joined.{no_contents, book_in}
 use Rattle.tally.specs.Parts.{book_of}
 use Rattle.tally.proofs.Turns.{settle-book, settle-sound, settle-units, none-deferred, none-settled, missing_past, there-listed}
 use Rattle.tally.proofs.Tally.settle.Goals as goal
@@ -12,7 +14,9 @@ returns-in-Err c =
       same = record { size = refl; slop = refl; worst = refl };
       units_are = sym (none-deferred (book_of c.args.self.now) c.args.d past);
       booked =
-          ap (λ (x : Tree). book_in x c.args.self.now.contents c.args.self.now.transactions) c.in-Err.ensures.after
+          ap (λ (x : List Contents). book_in c.lower.new.self x c.args.self.now.transactions)
+          (set-get_or c.args.self.now.contents c.from.result no_contents)
+          ∙ ap (λ (x : Tree). book_in x c.args.self.now.contents c.args.self.now.transactions) c.in-Err.ensures.after
           ∙ sym (none-settled (book_of c.args.self.now) c.args.d past);
     }
 
@@ -20,8 +24,9 @@ pub invariant_of-self-2 : goal.invariant_of-self-2
 invariant_of-self-2 c = record {
   sized = c.args.self.now.sized;
   sound =
-      settle-sound c.args.self.now c.args.d (there-listed c.args.self.now c.args.d (sym c.in_default.ensures.answer)) _ refl
-      c.lower.new.self c.in_default.ensures.after _ refl;
+      rw (c.from.ensures, c.take.ensures.after)
+      (settle-sound c.args.self.now c.args.d (there-listed c.args.self.now c.args.d (sym c.in_default.ensures.answer)) _ refl
+      c.lower.new.self (rw c.from.ensures at c.in_default.ensures.after) _ refl);
 }
 
 pub returns : goal.returns
@@ -29,6 +34,6 @@ returns c =
     let l = there-listed c.args.self.now c.args.d (sym c.in_default.ensures.answer) in
     record {
       same = record { size = refl; slop = refl; worst = refl };
-      units_are = settle-units c.args.self.now c.args.d l _ refl c.lower.new.self c.in_default.ensures.after _ refl;
-      booked = settle-book c.args.self.now c.args.d l _ refl c.lower.new.self c.in_default.ensures.after _ refl;
+      units_are = rw (c.take.ensures.value, c.from.ensures) (settle-units c.args.self.now c.args.d l _ refl c.lower.new.self (rw c.from.ensures at c.in_default.ensures.after) _ refl);
+      booked = rw (c.from.ensures, c.take.ensures.after) (settle-book c.args.self.now c.args.d l _ refl c.lower.new.self (rw c.from.ensures at c.in_default.ensures.after) _ refl);
     }

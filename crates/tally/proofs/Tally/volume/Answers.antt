@@ -1,6 +1,7 @@
-use Rattle.std.proofs.Common.{sym, refl, ap, ◌∙◌, arith}
+use Rattle.std.proofs.Common.{ℕ, set, sym, refl, ap, ◌∙◌, arith}
 use Rattle.std.proofs.lemmas.Result.{err_from_is_err_and}
 use Rattle.orders.specs.declared.answer.Answer.TheVariants.{Done}
+use Rattle.tally.specs.Joined.{book_in}
 use Rattle.tally.proofs.Sounds.{unmoved, refused_as, done_did}
 use Rattle.tally.proofs.Grows.{volume-refused, volume-done, volume-book, volume-sound}
 use Rattle.tally.proofs.Tally.volume.Goals as goal
@@ -17,16 +18,19 @@ pub invariant_of-self-2 : goal.invariant_of-self-2
 invariant_of-self-2 c = record {
   sized = c.args.self.now.sized;
   sound =
-      volume-sound c.args.self.now c.args.parent c.args.records c.args.name c.in_ok-d.d (sym c.in_ok-d.ensures.answer)
-      c.add_volume.new.self c.in_ok-d.ensures.after c.empty.result c.empty.ensures (omega arith);
+      rw c.from.ensures
+      (volume-sound c.args.self.now c.args.parent c.args.records c.args.name c.in_ok-d.d (sym c.in_ok-d.ensures.answer)
+      c.add_volume.new.self c.in_ok-d.ensures.after c.empty.result c.empty.ensures (omega arith));
 }
 
 pub returns : goal.returns
 returns c =
-    done_did c.args.self.now _ _ c.from.result
+    done_did c.args.self.now _ _ c.from-2.result
     (λ cost.
     volume-done c.args.self.now c.args.parent c.args.records c.args.name c.in_ok-d.d (sym c.in_ok-d.ensures.answer) cost
-    ∙ ap Done (sym c.from.ensures))
-    (volume-book c.args.self.now c.args.parent c.args.records c.args.name c.in_ok-d.d (sym c.in_ok-d.ensures.answer)
-    c.add_volume.new.self c.in_ok-d.ensures.after c.empty.result c.empty.ensures)
+    ∙ ap Done (sym c.from-2.ensures))
+    (λ cost.
+    ap (λ (i : ℕ). book_in c.add_volume.new.self (set c.args.self.now.contents i c.empty.result) c.args.self.now.transactions) c.from.ensures
+    ∙ volume-book c.args.self.now c.args.parent c.args.records c.args.name c.in_ok-d.d (sym c.in_ok-d.ensures.answer)
+    c.add_volume.new.self c.in_ok-d.ensures.after c.empty.result c.empty.ensures cost)
     (record { size = refl; slop = refl; worst = refl })
