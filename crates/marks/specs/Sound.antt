@@ -24,9 +24,8 @@ module _ {A : Type 0} {g : _} where
   abbrev pub size_of : Marks A g → ℕ
   size_of m = m.table.size
 
--- Over an allocator whose units are U and that is well made by W: a unit is out exactly where it has a holder.
-pub record Sound {A : Type 0} {g : _} (U : A → List Bool) (W : A → Type 0) (m : Marks A g) : Type 0 where
-  pub wellmade : W (pool_of m)
+-- Over an allocator whose units are U: a unit is out exactly where it has a holder.
+pub record Sound {A : Type 0} {g : _} (U : A → List Bool) (m : Marks A g) : Type 0 where
   pub sized : length (U (pool_of m)) ≡ size_of m
   pub long : length (holders_of m) ≡ size_of m
   pub held : Held (U (pool_of m)) (holders_of m)

@@ -19,7 +19,6 @@ pub struct Marks<A: Allocator> {
     // how many units are out
     out: u16,
     table: Table,
-    ghost wellmade: { A.Allocator.wellmade pool } by { A.Allocator.once pool },
     ghost sized: { length (A.Allocator.units pool) ≡ table.size },
     // a unit is out exactly where it has a holder
     ghost held: { Held (A.Allocator.units pool) (rows_of table) },
@@ -31,8 +30,7 @@ impl<A: Allocator> Marks<A> {
 
     /// The marks of a pool that has every unit in: nobody has a unit.
     pub fn make(pool: A) -> Self
-        requires wellmade { A.Allocator.wellmade pool }
-        requires none { A.Allocator.units pool ≡ replicate (length (A.Allocator.units pool)) false }
+        requires { A.Allocator.units pool ≡ replicate (length (A.Allocator.units pool)) false }
         ensures holders { holders_of result ≡ replicate (length (A.Allocator.units pool)) Nobody }
         ensures kept { pool_of result ≡ pool }
     {
@@ -46,7 +44,7 @@ impl<A: Allocator> Marks<A> {
 
     /// A unit is out exactly where it has a holder.
     pub fn sound(&self)
-        ensures { Sound A.Allocator.units A.Allocator.wellmade self.now }
+        ensures { Sound A.Allocator.units self.now }
     {}
 
     /// How many units there are.
@@ -58,8 +56,7 @@ impl<A: Allocator> Marks<A> {
 
     /// Gives the pool back.
     pub fn close(self) -> A
-        ensures pool { result ≡ pool_of self }
-        ensures wellmade { A.Allocator.wellmade result }
+        ensures { result ≡ pool_of self }
     {
         let Marks { pool, .. } = self;
         pool
