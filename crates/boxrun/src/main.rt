@@ -43,7 +43,7 @@ fn answer_input(rt: &HostRuntime) -> anyhow::Result<()> {
     let mut answers = vec![in heap; 0u8; ANSWER_BYTES]?;
     let ended = run_box(script.as_slice(), answers.as_mut_slice());
     let mut stopped = [0u8; 4];
-    let _ = ended.stop.answer().write_to(&mut stopped, 0);
+    let _ = ended.answer().write_to(&mut stopped, 0);
     let mut out = rt.stdout();
     out.write_all(&answers[..ended.written])?;
     out.write_all(&stopped)?;

@@ -1,5 +1,5 @@
 -- How far a run has come: what was exchanged, and what is left to say.
-use Rattle.std.proofs.Common.{◌≡◌, ℕ, zero, suc, ◌+◌, ◌<◌, ◌≤◌, cond, ltb, List, [], ◌∷◌, ◌++◌, length, set, Option, sym, refl, ap, ◌∙◌, append_assoc, arith}
+use Rattle.std.proofs.Common.{◌≡◌, ℕ, zero, suc, ◌+◌, ◌<◌, ◌≤◌, cond, ltb, List, [], ◌∷◌, ◌++◌, length, set, Option, Result, Ok, Err, sym, refl, ap, ◌∙◌, append_assoc, arith}
 use Rattle.std.proofs.lemmas.List.{length-append, length_push, append-nil}
 use Rattle.std.proofs.lemmas.Bool.{lt-ltb, le-ltb, cond-true, cond-false}
 use Rattle.orders.specs.Meaning.{Meaning}
@@ -11,9 +11,8 @@ use Rattle.rules.specs.Journal.{book_after}
 use Rattle.rules.specs.Served.{Exchange, exchange, bytes_of}
 use Rattle.reader.specs.Decode.{Read, decode, order, fault, finished}
 use Rattle.reader.specs.declared.fault.ReadFault.{ReadFault}
-use Rattle.runner.specs.declared.ended.Stop.{Stop}
-use Rattle.runner.specs.declared.ended.Stop.TheVariants.{End, Fault}
 use Rattle.runner.specs.declared.ended.Ended.{Ended}
+use Rattle.runner.specs.declared.fault.ScriptFault.{ScriptFault}
 use Rattle.runner.specs.declared.fault.ScriptFault.TheVariants.{Unreadable, NoRoom}
 use Rattle.runner.specs.Runs.{Ran, more, ends, ran_from, exchanges_in, stop_of, end_of}
 
@@ -26,11 +25,11 @@ then_push : (xs : List Exchange) (x : Exchange) (r : Ran) → then (xs ++ x ∷ 
 then_push [] x r = refl
 then_push (y ∷ ys) x r = ap (more y) (then_push ys x r)
 
-then_in : (xs : List Exchange) (z : Stop) → exchanges_in (then xs (ends z)) ≡ xs
+then_in : (xs : List Exchange) (z : Result ℕ ScriptFault) → exchanges_in (then xs (ends z)) ≡ xs
 then_in [] z = refl
 then_in (x ∷ xs) z = ap (λ (ys : List Exchange). x ∷ ys) (then_in xs z)
 
-then-stop : (xs : List Exchange) (z : Stop) → stop_of (then xs (ends z)) ≡ z
+then-stop : (xs : List Exchange) (z : Result ℕ ScriptFault) → stop_of (then xs (ends z)) ≡ z
 then-stop [] z = refl
 then-stop (x ∷ xs) z = then-stop xs z
 
@@ -73,25 +72,25 @@ step : Figures → List ℕ → ℕ → Book → ℕ → ℕ → ℕ → Read �
 step F s room b p w n r =
     elim r [
       | order m name q ↦
-          cond (ltb room (w + 17)) (ends (Fault (NoRoom p)))
+          cond (ltb room (w + 17)) (ends (Err (NoRoom p)))
           (more (exchange m (answer F b m)) (ran_from n F s room (book_after F b m (answer F b m)) q (w + length (answer_bytes (answer F b m)))))
-      | fault f ↦ ends (Fault (Unreadable f))
-      | finished ↦ ends (End p)
+      | fault f ↦ ends (Err (Unreadable f))
+      | finished ↦ ends (Ok p)
     ]
 
 module _ (F : Figures) (s : List ℕ) (room : ℕ) (b : Book) (p w : ℕ) where
-  at_end : (n : ℕ) → decode s p ≡ finished → ran_from n F s room b p w ≡ ends (End p)
+  at_end : (n : ℕ) → decode s p ≡ finished → ran_from n F s room b p w ≡ ends (Ok p)
   unfolding ran_from step
   at_end zero e = refl
   at_end (suc n) e = ap (step F s room b p w n) e
 
-  at-fault : (n : ℕ) (d : ReadFault) → decode s p ≡ fault d → ran_from (suc n) F s room b p w ≡ ends (Fault (Unreadable d))
+  at-fault : (n : ℕ) (d : ReadFault) → decode s p ≡ fault d → ran_from (suc n) F s room b p w ≡ ends (Err (Unreadable d))
   unfolding ran_from step
   at-fault n d e = ap (step F s room b p w n) e
 
   at-order : (n q : ℕ) (m : Meaning) (o : Option ℕ) → decode s p ≡ order m o q →
       ran_from (suc n) F s room b p w
-      ≡ cond (ltb room (w + 17)) (ends (Fault (NoRoom p)))
+      ≡ cond (ltb room (w + 17)) (ends (Err (NoRoom p)))
       (more (exchange m (answer F b m)) (ran_from n F s room (book_after F b m (answer F b m)) q (w + length (answer_bytes (answer F b m)))))
   unfolding ran_from step
   at-order n q m o e = ap (step F s room b p w n) e
@@ -103,10 +102,10 @@ pub record Done (F : Figures) (s : List ℕ) (b₀ : Book) (out₀ : List ℕ) (
   pub laid_so : out ≡ laid out₀ 0 (bytes_of xs)
   pub within_so : r.written ≤ length out₀
 
-abbrev pub ended : Stop → ℕ → ℕ → Ended
+abbrev pub ended : Result ℕ ScriptFault → ℕ → ℕ → Ended
 ended z n w = record { stop = z; answered = n; written = w }
 
-ended_at : (xs : List Exchange) (z : Stop) (n w : ℕ) → n ≡ length xs → w ≡ length (bytes_of xs) → ended z n w ≡ end_of (then xs (ends z))
+ended_at : (xs : List Exchange) (z : Result ℕ ScriptFault) (n w : ℕ) → n ≡ length xs → w ≡ length (bytes_of xs) → ended z n w ≡ end_of (then xs (ends z))
 ended_at xs z n w en ew =
     let a = then_in xs z in
     let b = then-stop xs z in
@@ -115,7 +114,7 @@ ended_at xs z n w en ew =
     cc
 
 module _ (F : Figures) (s : List ℕ) (b₀ : Book) (out₀ : List ℕ) (b : Book) (p n w : ℕ) (out : List ℕ) (xs : List Exchange) (g : Going F s b₀ out₀ b p n w out xs) where
-  stop : (z : Stop) → ran_from g.fuel F s (length out₀) b p w ≡ ends z → Done F s b₀ out₀ out xs (ended z n w)
+  stop : (z : Result ℕ ScriptFault) → ran_from g.fuel F s (length out₀) b p w ≡ ends z → Done F s b₀ out₀ out xs (ended z n w)
   stop z e =
       let all : then xs (ends z) ≡ ran_from (length s + 1) F s (length out₀) b₀ 0 0 = ap (then xs) (sym e) ∙ g.same in
       record {
@@ -125,22 +124,22 @@ module _ (F : Figures) (s : List ℕ) (b₀ : Book) (out₀ : List ℕ) (b : Boo
         within_so = g.fits;
       }
 
-  pub at_the_end : decode s p ≡ finished → Done F s b₀ out₀ out xs (ended (End p) n w)
-  at_the_end e = stop (End p) (at_end F s (length out₀) b p w g.fuel e)
+  pub at_the_end : decode s p ≡ finished → Done F s b₀ out₀ out xs (ended (Ok p) n w)
+  at_the_end e = stop (Ok p) (at_end F s (length out₀) b p w g.fuel e)
 
   some-fuel : (f : ℕ) → g.fuel ≡ f → p < length s → (f' : ℕ) × (g.fuel ≡ suc f')
   some-fuel zero e l = absurd (omega (arith, g.enough))
   some-fuel (suc f) e l = (f, e)
 
-  pub at_a_fault : (d : ReadFault) → decode s p ≡ fault d → Done F s b₀ out₀ out xs (ended (Fault (Unreadable d)) n w)
+  pub at_a_fault : (d : ReadFault) → decode s p ≡ fault d → Done F s b₀ out₀ out xs (ended (Err (Unreadable d)) n w)
   at_a_fault d e =
       let f = some-fuel g.fuel refl (within-fault s p d e) in
-      stop (Fault (Unreadable d)) (ap (λ (x : ℕ). ran_from x F s (length out₀) b p w) f.1 ∙ at-fault F s (length out₀) b p w f.0 d e)
+      stop (Err (Unreadable d)) (ap (λ (x : ℕ). ran_from x F s (length out₀) b p w) f.1 ∙ at-fault F s (length out₀) b p w f.0 d e)
 
-  pub no_room : (q : ℕ) (m : Meaning) (o : Option ℕ) → decode s p ≡ order m o q → length out₀ < w + 17 → Done F s b₀ out₀ out xs (ended (Fault (NoRoom p)) n w)
+  pub no_room : (q : ℕ) (m : Meaning) (o : Option ℕ) → decode s p ≡ order m o q → length out₀ < w + 17 → Done F s b₀ out₀ out xs (ended (Err (NoRoom p)) n w)
   no_room q m o e l =
       let f = some-fuel g.fuel refl (within s p q m o e) in
-      stop (Fault (NoRoom p))
+      stop (Err (NoRoom p))
       (ap (λ (x : ℕ). ran_from x F s (length out₀) b p w) f.1 ∙ at-order F s (length out₀) b p w f.0 q m o e ∙ cond-true _ _ _ (lt-ltb (length out₀) (w + 17) l))
 
   pub one_more : (q : ℕ) (m : Meaning) (o : Option ℕ) (b' : Book) (w' : ℕ) (out' : List ℕ) → decode s p ≡ order m o q → p < q → w + 17 ≤ length out₀ →

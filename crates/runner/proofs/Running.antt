@@ -1,5 +1,5 @@
 -- A run under way: the ledger is sound, and went through what was exchanged so far.
-use Rattle.std.proofs.Common.{◌≡◌, ℕ, ◌+◌, ◌<◌, ◌≤◌, Bool, List, [], ◌∷◌, ◌++◌, length, Some, Ok, Option, sym, ap, ◌∙◌, subst, arith}
+use Rattle.std.proofs.Common.{◌≡◌, ℕ, ◌+◌, ◌<◌, ◌≤◌, Bool, List, [], ◌∷◌, ◌++◌, length, Some, Ok, Err, Option, Result, sym, ap, ◌∙◌, subst, arith}
 use Rattle.std.proofs.lemmas.Bool.{cond-true, cond-false, le-ltb, lt-ltb}
 use Rattle.orders.specs.declared.answer.Answer.{Answer}
 use Rattle.orders.specs.declared.order.Order.{Order}
@@ -16,8 +16,7 @@ use Rattle.ledger.proofs.Serving.{through-none}
 use Rattle.reader.specs.Decode.{decode, order, fault, finished, ReadOne, Onward}
 use Rattle.reader.specs.declared.fault.ReadFault.{ReadFault}
 use Rattle.runner.specs.declared.ended.Ended.{Ended}
-use Rattle.runner.specs.declared.ended.Stop.{Stop}
-use Rattle.runner.specs.declared.ended.Stop.TheVariants.{End, Fault}
+use Rattle.runner.specs.declared.fault.ScriptFault.{ScriptFault}
 use Rattle.runner.specs.declared.fault.ScriptFault.TheVariants.{TooLong, Unreadable, NoRoom}
 use Rattle.runner.specs.Runs.{Ran, ends, ran_from, ran, exchanges_in, end_of}
 use Rattle.runner.specs.Steps.{One}
@@ -77,9 +76,9 @@ module _ {A P Lent : Type 0} (U : A → List Bool) (W : A → Type 0) (L : A →
         through = subst (λ (ys : List Exchange). Through U L C X l₀ l ys) x run.through;
       }
 
-  pub too_long : (l : Ledger A P) (s out : List ℕ) → Sound U W C X l → 4096 < length s → Finished l l s out out (ended (Fault TooLong) 0 0)
+  pub too_long : (l : Ledger A P) (s out : List ℕ) → Sound U W C X l → 4096 < length s → Finished l l s out out (ended (Err TooLong) 0 0)
   too_long l s out sound long =
-      let e : ends (Fault TooLong) ≡ ran (figures C X l) s (length out) (book_of l) = sym (cond-true _ _ _ (lt-ltb 4096 (length s) long)) in
+      let e : ends (Err TooLong) ≡ ran (figures C X l) s (length out) (book_of l) = sym (cond-true _ _ _ (lt-ltb 4096 (length s) long)) in
       record {
         sound = sound;
         ended_so = ap end_of e;
@@ -91,18 +90,18 @@ module _ {A P Lent : Type 0} (U : A → List Bool) (W : A → Type 0) (L : A →
   -- a run at the place p, whose reader stands over the bytes rs
   module _ (l₀ l : Ledger A P) (s rs out₀ : List ℕ) (p place n w : ℕ) (out : List ℕ) (same : rs ≡ s) (here : place ≡ p) (small : length s ≤ 4096)
       (run : Running U W L C X l₀ l s out₀ p n w out) where
-    at_place : (stop : ℕ → Stop) → Done (figures C X l₀) s (book_of l₀) out₀ out run.so_far (ended (stop p) n w) → Finished l₀ l s out₀ out (ended (stop place) n w)
+    at_place : (stop : ℕ → Result ℕ ScriptFault) → Done (figures C X l₀) s (book_of l₀) out₀ out run.so_far (ended (stop p) n w) → Finished l₀ l s out₀ out (ended (stop place) n w)
     at_place stop d =
         finish l₀ l s out₀ p n w out run (ended (stop place) n w)
         (subst (λ (q : ℕ). Done (figures C X l₀) s (book_of l₀) out₀ out run.so_far (ended (stop q) n w)) (sym here) d) small
 
-    pub ends_there : decode rs p ≡ finished → Finished l₀ l s out₀ out (ended (End place) n w)
+    pub ends_there : decode rs p ≡ finished → Finished l₀ l s out₀ out (ended (Ok place) n w)
     ends_there e =
-        at_place End (at_the_end (figures C X l₀) s (book_of l₀) out₀ (book_of l) p n w out run.so_far run.going (subst (λ (x : List ℕ). decode x p ≡ finished) same e))
+        at_place (λ (q : ℕ). Ok q) (at_the_end (figures C X l₀) s (book_of l₀) out₀ (book_of l) p n w out run.so_far run.going (subst (λ (x : List ℕ). decode x p ≡ finished) same e))
 
-    pub faults_there : (f : ReadFault) → decode rs p ≡ fault f → Finished l₀ l s out₀ out (ended (Fault (Unreadable f)) n w)
+    pub faults_there : (f : ReadFault) → decode rs p ≡ fault f → Finished l₀ l s out₀ out (ended (Err (Unreadable f)) n w)
     faults_there f e =
-        at_place (λ (q : ℕ). Fault (Unreadable f))
+        at_place (λ (q : ℕ). Err (Unreadable f))
         (at_a_fault (figures C X l₀) s (book_of l₀) out₀ (book_of l) p n w out run.so_far run.going f (subst (λ (x : List ℕ). decode x p ≡ fault f) same e))
 
     -- an order o was read, up to the place q
@@ -111,9 +110,9 @@ module _ {A P Lent : Type 0} (U : A → List Bool) (W : A → Type 0) (L : A →
       read_there =
           subst (λ (x : List ℕ). decode x p ≡ order (meaning o) (name_place o) q) same (subst (λ (x : Option Order). ReadOne rs p q (Ok x)) is value)
 
-      pub lacks_room : length out₀ < w + 17 → Finished l₀ l s out₀ out (ended (Fault (NoRoom place)) n w)
+      pub lacks_room : length out₀ < w + 17 → Finished l₀ l s out₀ out (ended (Err (NoRoom place)) n w)
       lacks_room less =
-          at_place (λ (x : ℕ). Fault (NoRoom x))
+          at_place (λ (x : ℕ). Err (NoRoom x))
           (no_room (figures C X l₀) s (book_of l₀) out₀ (book_of l) p n w out run.so_far run.going q (meaning o) (name_place o) read_there less)
 
       pub ahead : Onward rs p q (Ok next) → (p < q) × (q ≤ length s)

@@ -5,54 +5,46 @@ ghost use Rattle.runner.specs.Stops.{stop_answer, stop_ground};
 use super::fault::{ScriptFault, short_place};
 use orders::answer::Answer;
 
-/// Why a run stopped.
+/// What came of a run: why it stopped, how many orders it answered, and how many bytes the answers have.
 #[derive(Clone, Copy)]
-pub enum Stop {
-    /// The script is at its end, which is at the place.
-    End { place: usize },
-    /// No further order could be read or answered.
-    Fault(ScriptFault),
+pub struct Ended {
+    /// The place of the script's end, or why no further order could be read or answered.
+    pub stop: Result<usize, ScriptFault>,
+    pub answered: usize,
+    pub written: usize,
 }
 
-impl Stop {
+impl Ended {
     /// The number that stopped the run, 0 at the script's end.
     pub fn number(self) -> u8
-        ensures { result ≡ (stop_ground self).0 }
+        ensures { result ≡ (stop_ground self.stop).0 }
     {
-        match self {
-            Stop::End { place: _ } => 0,
-            Stop::Fault(fault) => fault.number(),
+        match self.stop {
+            Ok(_) => 0,
+            Err(fault) => fault.number(),
         }
     }
 
     /// The script's length at its end, 0 for a script that is too long, and else the place of the order that stopped the run.
     pub fn place(self) -> usize
-        ensures { result ≡ (stop_ground self).1 }
+        ensures { result ≡ (stop_ground self.stop).1 }
     {
-        match self {
-            Stop::End { place } => place,
-            Stop::Fault(fault) => fault.place(),
+        match self.stop {
+            Ok(place) => place,
+            Err(fault) => fault.place(),
         }
     }
 
     /// The answer that says how the run ended.
     pub fn answer(self) -> Answer
-        ensures { result ≡ stop_answer self }
+        ensures { result ≡ stop_answer self.stop }
     {
-        match self {
-            Stop::End { place } => Answer::Stopped {
+        match self.stop {
+            Ok(place) => Answer::Stopped {
                 number: 0,
                 place: short_place(place),
             },
-            Stop::Fault(fault) => fault.answer(),
+            Err(fault) => Answer::from(fault),
         }
     }
-}
-
-/// What came of a run: why it stopped, how many orders it answered, and how many bytes the answers have.
-#[derive(Clone, Copy)]
-pub struct Ended {
-    pub stop: Stop,
-    pub answered: usize,
-    pub written: usize,
 }

@@ -1,7 +1,7 @@
 // What goes wrong with a script, and with an order of it.
 ghost use Rattle.std.specs.Prelude.{◌≡◌, None};
 ghost use Rattle.runner.specs.Faults.{fault_answer, fault_ground, placed, refused_at};
-ghost use Rattle.runner.specs.declared.fault.ScriptFault.TheVariants.{Refused as refused_order};
+ghost use Rattle.runner.specs.declared.fault.ScriptFault.TheVariants.{Refused as refused_order, Unreadable as unreadable};
 
 use orders::answer::{Answer, Refusal};
 use reader::fault::ReadFault;
@@ -29,7 +29,7 @@ pub enum ScriptFault {
 pub(crate) fn short_place(place: usize) -> u16
     ensures { result ≡ placed place }
 {
-    if place < 65535 { place as u16 } else { 65535 }
+    u16::try_from(place).unwrap_or(u16::MAX)
 }
 
 impl ScriptFault {
@@ -53,10 +53,7 @@ impl ScriptFault {
             ScriptFault::TooLong => 0,
             ScriptFault::Unreadable(fault) => fault.place(),
             ScriptFault::NoRoom { place } => place,
-            ScriptFault::Refused { fault: _, place } => match place {
-                Some(place) => place,
-                None => 0,
-            },
+            ScriptFault::Refused { fault: _, place } => place.unwrap_or(0),
         }
     }
 
@@ -72,18 +69,29 @@ impl ScriptFault {
             other => other,
         }
     }
+}
 
-    /// The answer that says it: a refused order's, or the end of the run.
-    pub fn answer(self) -> Answer
-        ensures { result ≡ fault_answer self }
-    {
-        match self {
+/// The answer that says it: a refused order's, or the end of the run.
+impl From<ScriptFault> for Answer {
+    ghost from_gives = { λ fault answer. answer ≡ fault_answer fault };
+
+    fn from(fault: ScriptFault) -> Answer {
+        match fault {
             ScriptFault::Refused { fault, place: _ } => Answer::Refused(Refusal::from(fault)),
             other => Answer::Stopped {
                 number: other.number(),
                 place: short_place(other.place()),
             },
         }
+    }
+}
+
+/// A script that cannot be read on.
+impl From<ReadFault> for ScriptFault {
+    ghost from_gives = { λ fault lifted. lifted ≡ unreadable fault };
+
+    fn from(fault: ReadFault) -> ScriptFault {
+        ScriptFault::Unreadable(fault)
     }
 }
 

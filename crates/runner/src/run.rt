@@ -1,5 +1,5 @@
 // A run over a script.
-ghost use Rattle.std.specs.Prelude.{◌≡◌, ◌+◌, ◌≤◌, length, Some, None};
+ghost use Rattle.std.specs.Prelude.{◌≡◌, ◌+◌, ◌≤◌, length, Some};
 ghost use Rattle.orders.specs.Layout.{answer_bytes, laid};
 ghost use Rattle.orders.specs.Meaning.{meaning};
 ghost use Rattle.rules.specs.Answers.{answer as answer_to};
@@ -10,7 +10,7 @@ ghost use Rattle.runner.specs.Faults.{answer_at, AtPlace};
 ghost use Rattle.runner.specs.Runs.{end_of, exchanges_in, ran};
 ghost use Rattle.runner.specs.Steps.{One};
 
-use super::ended::{Ended, Stop};
+use super::ended::Ended;
 use super::fault::ScriptFault;
 use costs::policy::CostPolicy;
 use ledger::Ledger;
@@ -26,20 +26,7 @@ pub const LONGEST_SCRIPT: usize = 4096;
 /// The bytes of the longest answer. An order is obeyed only where as many are left.
 pub const LONGEST_ANSWER: usize = 17;
 
-// Obeys an order; a refusal of the ledger becomes one of the script.
-fn obey<A: Allocator, P: CostPolicy>(
-    ledger: &mut Ledger<A, P>,
-    order: Order<'_>,
-) -> Result<Reply, ScriptFault>
-    requires { Sound A.Allocator.units A.Allocator.wellmade P.CostPolicy.cost P.CostPolicy.worst ledger.old }
-    ensures one { One A.Allocator.units A.Allocator.wellmade A.Allocator.lent P.CostPolicy.cost P.CostPolicy.worst ledger.old ledger.new (meaning order.entry) (answer_at result) }
-    ensures place { AtPlace None result }
-{
-    let reply = ledger.obey(order)?;
-    Ok(reply)
-}
-
-// Obeys the order that begins at the place; a refusal has that place.
+// Obeys the order that begins at the place. A refusal of the ledger becomes one of the script, with that place.
 fn obey_at<A: Allocator, P: CostPolicy>(
     ledger: &mut Ledger<A, P>,
     order: Order<'_>,
@@ -49,10 +36,9 @@ fn obey_at<A: Allocator, P: CostPolicy>(
     ensures one { One A.Allocator.units A.Allocator.wellmade A.Allocator.lent P.CostPolicy.cost P.CostPolicy.worst ledger.old ledger.new (meaning order.entry) (answer_at result) }
     ensures place { AtPlace (Some place) result }
 {
-    match obey(ledger, order) {
-        Ok(reply) => Ok(reply),
-        Err(fault) => Err(fault.at(place)),
-    }
+    ledger
+        .obey(order)
+        .map_err(|fault| ScriptFault::from(fault).at(place))
 }
 
 // The answer that the result of an order means: `81` is read off the fault.
@@ -61,7 +47,7 @@ fn answer(res: Result<Reply, ScriptFault>) -> Answer
 {
     match res {
         Ok(reply) => reply.answer(),
-        Err(fault) => fault.answer(),
+        Err(fault) => Answer::from(fault),
     }
 }
 
@@ -103,7 +89,7 @@ pub fn run<A: Allocator, P: CostPolicy>(
 {
     if script.len() > LONGEST_SCRIPT {
         return Ended {
-            stop: Stop::Fault(ScriptFault::TooLong),
+            stop: Err(ScriptFault::TooLong),
             answered: 0,
             written: 0,
         };
@@ -111,32 +97,23 @@ pub fn run<A: Allocator, P: CostPolicy>(
     let mut reader = Reader::new(script);
     let mut answered = 0;
     let mut written = 0;
-    'orders: loop {
+    let stop = 'orders: loop {
         let place = reader.place();
         match reader.next_order() {
-            Err(fault) => return Ended {
-                stop: Stop::Fault(ScriptFault::Unreadable(fault)),
-                answered,
-                written,
-            },
-            Ok(next) => match next {
-                None => return Ended {
-                    stop: Stop::End { place },
-                    answered,
-                    written,
-                },
-                Some(order) => {
-                    if answers.len() - written < LONGEST_ANSWER {
-                        return Ended {
-                            stop: Stop::Fault(ScriptFault::NoRoom { place }),
-                            answered,
-                            written,
-                        };
-                    }
-                    written += answer_order(ledger, order, place, answers, written);
-                    answered += 1;
+            Err(fault) => break Err(ScriptFault::from(fault)),
+            Ok(None) => break Ok(place),
+            Ok(Some(order)) => {
+                if answers.len() - written < LONGEST_ANSWER {
+                    break Err(ScriptFault::NoRoom { place });
                 }
-            },
+                written += answer_order(ledger, order, place, answers, written);
+                answered += 1;
+            }
         }
+    };
+    Ended {
+        stop,
+        answered,
+        written,
     }
 }

@@ -121,8 +121,8 @@ mod tests {
             answers,
         ) {
             Ok(ended) => (
-                ended.stop.number(),
-                ended.stop.place(),
+                ended.number(),
+                ended.place(),
                 ended.answered,
                 ended.written,
             ),

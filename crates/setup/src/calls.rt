@@ -68,7 +68,7 @@ fn check_plan(units: usize, slop: u16, scheme: Scheme) -> Result<(), SetupFault>
     ensures { PlanChecked units slop scheme result }
 {
     if usize::from(slop) >= units {
-        return Err(SetupFault::from(MakeFault::SlopTooLarge));
+        return Err(MakeFault::SlopTooLarge.into());
     }
     scheme.check()?;
     Ok(())
@@ -94,14 +94,10 @@ pub fn run_on_bitmap(
     ensures ran { Called (Room memory.old units) units slop scheme script.now answers.old answers.new result }
     ensures unwritten { Unwritten memory.old memory.new result }
 {
-    match check_bitmap(memory, units, slop, scheme) {
-        Ok(()) => {
-            let bits = Bitmap::make(units, memory);
-            let (ended, _) = run_under(bits, slop, scheme, script, answers);
-            Ok(ended)
-        }
-        Err(fault) => Err(fault),
-    }
+    check_bitmap(memory, units, slop, scheme)?;
+    let bits = Bitmap::make(units, memory);
+    let (ended, _) = run_under(bits, slop, scheme, script, answers);
+    Ok(ended)
 }
 
 // Whether a ledger can be made over a chain.
@@ -124,14 +120,10 @@ pub fn run_on_chain(
     ensures ran { Called (Space links.old units) units slop scheme script.now answers.old answers.new result }
     ensures unwritten { Unwritten links.old links.new result }
 {
-    match check_chain(links, units, slop, scheme) {
-        Ok(()) => {
-            let chain = Chain::make(units, links);
-            let (ended, _) = run_under(chain, slop, scheme, script, answers);
-            Ok(ended)
-        }
-        Err(fault) => Err(fault),
-    }
+    check_chain(links, units, slop, scheme)?;
+    let chain = Chain::make(units, links);
+    let (ended, _) = run_under(chain, slop, scheme, script, answers);
+    Ok(ended)
 }
 
 // Whether a bitmap and a chain fit their memory and make a pair.
@@ -179,16 +171,12 @@ pub fn run_on_joined(
     ensures memory { Unwritten memory.old memory.new result }
     ensures links { Unwritten links.old links.new result }
 {
-    match check_joined(memory, links, units, slop, scheme) {
-        Ok(()) => {
-            let bits = Bitmap::make(units[0], memory);
-            let chain = Chain::make(units[1], links);
-            let pair = Joined::make(bits, chain);
-            let (ended, _) = run_under(pair, slop, scheme, script, answers);
-            Ok(ended)
-        }
-        Err(fault) => Err(fault),
-    }
+    check_joined(memory, links, units, slop, scheme)?;
+    let bits = Bitmap::make(units[0], memory);
+    let chain = Chain::make(units[1], links);
+    let pair = Joined::make(bits, chain);
+    let (ended, _) = run_under(pair, slop, scheme, script, answers);
+    Ok(ended)
 }
 
 // Whether two pairs make a pair.
@@ -237,7 +225,7 @@ pub fn run_on_nested(
     ensures firsts { Unwritten first_memory.old first_memory.new result × Unwritten first_links.old first_links.new result }
     ensures seconds { Unwritten second_memory.old second_memory.new result × Unwritten second_links.old second_links.new result }
 {
-    match check_nested(
+    check_nested(
         first_memory,
         first_links,
         second_memory,
@@ -245,18 +233,14 @@ pub fn run_on_nested(
         units,
         slop,
         scheme,
-    ) {
-        Ok(()) => {
-            let first_bits = Bitmap::make(units[0], first_memory);
-            let first_chain = Chain::make(units[1], first_links);
-            let second_bits = Bitmap::make(units[2], second_memory);
-            let second_chain = Chain::make(units[3], second_links);
-            let first = Joined::make(first_bits, first_chain);
-            let second = Joined::make(second_bits, second_chain);
-            let pair = Joined::make(first, second);
-            let (ended, _) = run_under(pair, slop, scheme, script, answers);
-            Ok(ended)
-        }
-        Err(fault) => Err(fault),
-    }
+    )?;
+    let first_bits = Bitmap::make(units[0], first_memory);
+    let first_chain = Chain::make(units[1], first_links);
+    let second_bits = Bitmap::make(units[2], second_memory);
+    let second_chain = Chain::make(units[3], second_links);
+    let first = Joined::make(first_bits, first_chain);
+    let second = Joined::make(second_bits, second_chain);
+    let pair = Joined::make(first, second);
+    let (ended, _) = run_under(pair, slop, scheme, script, answers);
+    Ok(ended)
 }

@@ -31,11 +31,11 @@ returns-in-Err g c =
     c.args.ledger.now c.orders.ledger c.args.script.now (script_of c.orders.reader) c.args.answers.now (place_of c.orders.reader) c.place-place.result
     c.orders.answered c.orders.written c.orders.answers c.orders.invariant.0 c.place-place.ensures c.if-script-gt-LONGEST_SCRIPT.false c.orders.invariant.1
     c.in-Err.fault c.in-Err.ensures.value.0 in
-    record { sound = f.sound; ended = f.ended_so; bytes = f.bytes_so; within = f.within_so; through = f.through }
+    record { sound = f.sound; ended = rw c.from.ensures f.ended_so; bytes = f.bytes_so; within = f.within_so; through = f.through }
 
-pub returns-in-None : goal.returns-in-None
-returns-in-None g c =
-    let value = subst (λ (o : Option Order). ReadOne (script_of c.orders.reader) (place_of c.orders.reader) (place_of c.next_order.new.self) (Ok o)) c.in-None.is c.in-Ok.ensures.value in
+pub returns-in-Ok-None : goal.returns-in-Ok-None
+returns-in-Ok-None g c =
+    let value = subst (λ (o : Option Order). ReadOne (script_of c.orders.reader) (place_of c.orders.reader) (place_of c.next_order.new.self) (Ok o)) c.in-Ok-None.field-0-is c.in-Ok-None.ensures.value in
     let f = running.ends_there g.A.Allocator.units g.A.Allocator.wellmade g.A.Allocator.lent g.P.CostPolicy.cost g.P.CostPolicy.worst
     c.args.ledger.now c.orders.ledger c.args.script.now (script_of c.orders.reader) c.args.answers.now (place_of c.orders.reader) c.place-place.result
     c.orders.answered c.orders.written c.orders.answers c.orders.invariant.0 c.place-place.ensures c.if-script-gt-LONGEST_SCRIPT.false c.orders.invariant.1
@@ -48,7 +48,7 @@ returns-then-answers-written-lt-LONGEST_ANSWER g c =
     let f = running.lacks_room g.A.Allocator.units g.A.Allocator.wellmade g.A.Allocator.lent g.P.CostPolicy.cost g.P.CostPolicy.worst
     c.args.ledger.now c.orders.ledger c.args.script.now (script_of c.orders.reader) c.args.answers.now (place_of c.orders.reader) c.place-place.result
     c.orders.answered c.orders.written c.orders.answers c.orders.invariant.0 c.place-place.ensures c.if-script-gt-LONGEST_SCRIPT.false c.orders.invariant.1
-    c.in-Ok.next c.in-Some.order (place_of c.next_order.new.self) c.in-Some.is c.in-Ok.ensures.value less in
+    c.in-Ok-Some.field-0 c.in-Ok-Some.order (place_of c.next_order.new.self) c.in-Ok-Some.field-0-is c.in-Ok-Some.ensures.value less in
     record { sound = f.sound; ended = f.ended_so; bytes = f.bytes_so; within = f.within_so; through = f.through }
 
 pub overflow_add-written : goal.overflow_add-written
@@ -64,14 +64,14 @@ orders-preserved g c =
     let r = running.goes g.A.Allocator.units g.A.Allocator.wellmade g.A.Allocator.lent g.P.CostPolicy.cost g.P.CostPolicy.worst
     c.args.ledger.now c.orders.ledger c.args.script.now (script_of c.orders.reader) c.args.answers.now (place_of c.orders.reader) c.place-place.result
     c.orders.answered c.orders.written c.orders.answers c.orders.invariant.0 c.place-place.ensures c.if-script-gt-LONGEST_SCRIPT.false c.orders.invariant.1
-    c.in-Ok.next c.in-Some.order (place_of c.next_order.new.self) c.in-Some.is c.in-Ok.ensures.value c.answer_order-written.new.ledger c.answer_order-written.result c.answer_order-written.new.answers
-    c.in-Ok.ensures.forward room o.one o.count o.bytes in
-    (c.in-Ok.ensures.same ∙ c.orders.invariant.0, r)
+    c.in-Ok-Some.field-0 c.in-Ok-Some.order (place_of c.next_order.new.self) c.in-Ok-Some.field-0-is c.in-Ok-Some.ensures.value c.answer_order-written.new.ledger c.answer_order-written.result c.answer_order-written.new.answers
+    c.in-Ok-Some.ensures.forward room o.one o.count o.bytes in
+    (c.in-Ok-Some.ensures.same ∙ c.orders.invariant.0, r)
 
 pub orders-smaller : goal.orders-smaller
 orders-smaller g c =
     let on = running.ahead g.A.Allocator.units g.A.Allocator.wellmade g.A.Allocator.lent g.P.CostPolicy.cost g.P.CostPolicy.worst
     c.args.ledger.now c.orders.ledger c.args.script.now (script_of c.orders.reader) c.args.answers.now (place_of c.orders.reader) c.place-place.result
     c.orders.answered c.orders.written c.orders.answers c.orders.invariant.0 c.place-place.ensures c.if-script-gt-LONGEST_SCRIPT.false c.orders.invariant.1
-    c.in-Ok.next c.in-Some.order (place_of c.next_order.new.self) c.in-Some.is c.in-Ok.ensures.value c.in-Ok.ensures.forward in
+    c.in-Ok-Some.field-0 c.in-Ok-Some.order (place_of c.next_order.new.self) c.in-Ok-Some.field-0-is c.in-Ok-Some.ensures.value c.in-Ok-Some.ensures.forward in
     omega (arith, on.0, on.1)

@@ -3,12 +3,12 @@ use Rattle.setup.proofs.calls.run_on_bitmap.Goals as goal
 
 pub run_under-requires : goal.run_under-requires
 run_under-requires c =
-    let fit = c.in-Ok.ensures in
+    let fit = c.in_ok-check_bitmap.ensures in
     record { wellmade = c.make-bits.ensures.made; checked = runs.checks c.args.slop c.args.units _ c.make-bits.ensures.units fit.1; fits = fit.2 }
 
-pub returns-in-Ok : goal.returns-in-Ok
-returns-in-Ok c =
-    let fit = c.in-Ok.ensures in
+pub returns : goal.returns
+returns c =
+    let fit = c.in_ok-check_bitmap.ensures in
     record {
       ran = (
         fit.0,

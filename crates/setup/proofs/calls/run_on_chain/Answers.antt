@@ -3,12 +3,12 @@ use Rattle.setup.proofs.calls.run_on_chain.Goals as goal
 
 pub run_under-requires : goal.run_under-requires
 run_under-requires c =
-    let fit = c.in-Ok.ensures in
+    let fit = c.in_ok-check_chain.ensures in
     record { wellmade = c.make-chain.ensures.made; checked = runs.checks c.args.slop c.args.units _ c.make-chain.ensures.units fit.1; fits = fit.2 }
 
-pub returns-in-Ok : goal.returns-in-Ok
-returns-in-Ok c =
-    let fit = c.in-Ok.ensures in
+pub returns : goal.returns
+returns c =
+    let fit = c.in_ok-check_chain.ensures in
     record {
       ran = (
         fit.0,

@@ -4,14 +4,14 @@ use Rattle.setup.proofs.calls.run_on_joined.Goals as goal
 
 pub make-pair-requires : goal.make-pair-requires
 make-pair-requires c =
-    let fit = c.in-Ok.ensures in
+    let fit = c.in_ok-check_joined.ensures in
     let b = c.make-bits.ensures in
     let h = c.make-chain.ensures in
     (b.made, (h.made, runs.both_few _ _ (get_or c.args.units 0 0) (get_or c.args.units 1 0) b.units h.units fit.0.few))
 
 pub run_under-requires : goal.run_under-requires
 run_under-requires c =
-    let fit = c.in-Ok.ensures in
+    let fit = c.in_ok-check_joined.ensures in
     let m = get_or c.args.units 0 0 in
     let n = get_or c.args.units 1 0 in
     let p = c.make-pair.ensures in
@@ -21,9 +21,9 @@ run_under-requires c =
       fits = fit.2;
     }
 
-pub returns-in-Ok : goal.returns-in-Ok
-returns-in-Ok c =
-    let fit = c.in-Ok.ensures in
+pub returns : goal.returns
+returns c =
+    let fit = c.in_ok-check_joined.ensures in
     let m = get_or c.args.units 0 0 in
     let n = get_or c.args.units 1 0 in
     let p = c.make-pair.ensures in

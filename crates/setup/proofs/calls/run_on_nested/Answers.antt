@@ -4,21 +4,21 @@ use Rattle.setup.proofs.calls.run_on_nested.Goals as goal
 
 pub make-first-requires : goal.make-first-requires
 make-first-requires c =
-    let fit = c.in-Ok.ensures in
+    let fit = c.in_ok-check_nested.ensures in
     let b = c.make-first_bits.ensures in
     let h = c.make-first_chain.ensures in
     (b.made, (h.made, runs.both_few _ _ (get_or c.args.units 0 0) (get_or c.args.units 1 0) b.units h.units fit.0.first.few))
 
 pub make-second-requires : goal.make-second-requires
 make-second-requires c =
-    let fit = c.in-Ok.ensures in
+    let fit = c.in_ok-check_nested.ensures in
     let b = c.make-second_bits.ensures in
     let h = c.make-second_chain.ensures in
     (b.made, (h.made, runs.both_few _ _ (get_or c.args.units 2 0) (get_or c.args.units 3 0) b.units h.units fit.0.second.few))
 
 pub make-pair-requires : goal.make-pair-requires
 make-pair-requires c =
-    let fit = c.in-Ok.ensures in
+    let fit = c.in_ok-check_nested.ensures in
     let us = c.args.units in
     let f = c.make-first.ensures in
     let s = c.make-second.ensures in
@@ -28,7 +28,7 @@ make-pair-requires c =
 
 pub run_under-requires : goal.run_under-requires
 run_under-requires c =
-    let fit = c.in-Ok.ensures in
+    let fit = c.in_ok-check_nested.ensures in
     let us = c.args.units in
     let p = c.make-pair.ensures in
     let one = c.make-first.ensures.units ∙ runs.both_in _ _ (get_or us 0 0) (get_or us 1 0) c.make-first_bits.ensures.units c.make-first_chain.ensures.units in
@@ -36,9 +36,9 @@ run_under-requires c =
     let all = p.units ∙ runs.both_in _ _ (get_or us 0 0 + get_or us 1 0) (get_or us 2 0 + get_or us 3 0) one two in
     record { wellmade = p.made; checked = runs.checks c.args.slop (get_or us 0 0 + get_or us 1 0 + (get_or us 2 0 + get_or us 3 0)) _ all fit.1; fits = fit.2 }
 
-pub returns-in-Ok : goal.returns-in-Ok
-returns-in-Ok c =
-    let fit = c.in-Ok.ensures in
+pub returns : goal.returns
+returns c =
+    let fit = c.in_ok-check_nested.ensures in
     let us = c.args.units in
     let p = c.make-pair.ensures in
     let one = c.make-first.ensures.units ∙ runs.both_in _ _ (get_or us 0 0) (get_or us 1 0) c.make-first_bits.ensures.units c.make-first_chain.ensures.units in
