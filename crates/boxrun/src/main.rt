@@ -19,17 +19,17 @@ fn run_box(script: &[u8], answers: &mut [u8]) -> Ended
     ensures { Ran (plan 100 4 (copies_of 2)) script.now answers.old answers.new result }
 {
     let mut memory = [0u8; 13];
-    match run_on_bitmap(
+    let Ok(ended) = run_on_bitmap(
         &mut memory,
         100,
         4,
         Scheme::Copies { n: 2 },
         script,
         answers,
-    ) {
-        Ok(ended) => ended,
-        Err(_) => unreachable(),
-    }
+    ) else {
+        unreachable()
+    };
+    ended
 }
 
 fn answer_input(rt: &HostRuntime) -> anyhow::Result<()> {

@@ -34,17 +34,9 @@ mod tests {
     ) -> Result<[bool; 8], ServeFault>
         requires { A.Allocator.wellmade pool }
     {
-        match serve(pool, policy, 4, orders, answers) {
-            Ok(ledger) => {
-                let (pool, _) = ledger.close();
-                let mut out = [false; 8];
-                for unit in 0..8u16 {
-                    out[unit as usize] = pool.is_out(unit);
-                }
-                Ok(out)
-            }
-            Err(unserved) => Err(unserved.fault),
-        }
+        let ledger = serve(pool, policy, 4, orders, answers).map_err(|unserved| unserved.fault)?;
+        let (pool, _) = ledger.close();
+        Ok([0, 1, 2, 3, 4, 5, 6, 7].map(|unit| pool.is_out(unit)))
     }
 
     // A volume of two records, one written, one order refused, and the figures told; five units are out then.
@@ -86,14 +78,7 @@ mod tests {
         let mut answers = [Answer::Done { value: 7 }; 8];
         let out = units_out(pool, Copies::make(1), &orders, &mut answers)?;
         assert_eq!(rt; out, [true, true, true, true, true, false, false, false]);
-        assert_eq!(rt; summed(answers[0]), 1);
-        assert_eq!(rt; summed(answers[1]), 16);
-        assert_eq!(rt; summed(answers[2]), 16);
-        assert_eq!(rt; summed(answers[3]), 16);
-        assert_eq!(rt; summed(answers[4]), 5);
-        assert_eq!(rt; summed(answers[5]), 1008);
-        assert_eq!(rt; summed(answers[6]), 5);
-        assert_eq!(rt; summed(answers[7]), 7);
+        assert_eq!(rt; answers.map(summed), [1, 16, 16, 16, 5, 1008, 5, 7]);
         Ok(())
     }
 
@@ -120,12 +105,7 @@ mod tests {
             &[0x21, 0, 0x21, 0],
             answers,
         ) {
-            Ok(ended) => (
-                ended.number(),
-                ended.place(),
-                ended.answered,
-                ended.written,
-            ),
+            Ok(ended) => (ended.number(), ended.place(), ended.answered, ended.written),
             Err(fault) => (fault.number(), 0, 0, 0),
         }
     }
@@ -144,60 +124,35 @@ mod tests {
         assert_eq!(rt; none[0], 9);
     }
 
-    // Of several bad figures the lowest number is answered.
-    #[test]
-    fn lowest_number(rt: HostRuntime) -> Result<(), Fail> {
+    // The number by which a run over four parts of so many units is refused, with so many units kept back and three parity
+    // sectors over three disks.
+    fn nested_refusal(units: [usize; 4], slop: u16) -> Option<u8> {
         let mut bits = [0u8; 1];
         let mut links = [0u16; 8];
         let mut more_bits = [0u8; 1];
         let mut more_links = [0u16; 8];
         let mut answers = [0u8; 0];
-        let bad = Scheme::Parity { p: 3, w: 3 };
-        match run_on_nested(
+        let res = run_on_nested(
             &mut bits,
             &mut links,
             &mut more_bits,
             &mut more_links,
-            [8, 8, 8, 9],
-            99,
-            bad,
+            units,
+            slop,
+            Scheme::Parity { p: 3, w: 3 },
             &[],
             &mut answers,
-        ) {
-            Ok(_) => return Err(Fail::new("nine entries in the room of eight")),
-            Err(fault) => assert_eq!(rt; fault.number(), 20),
-        }
-        match run_on_nested(
-            &mut bits,
-            &mut links,
-            &mut more_bits,
-            &mut more_links,
-            [8, 8, 8, 8],
-            32,
-            bad,
-            &[],
-            &mut answers,
-        ) {
-            Ok(_) => return Err(Fail::new("all units kept back")),
-            Err(fault) => assert_eq!(rt; fault.number(), 21),
-        }
-        match run_on_nested(
-            &mut bits,
-            &mut links,
-            &mut more_bits,
-            &mut more_links,
-            [8, 8, 8, 8],
-            31,
-            bad,
-            &[],
-            &mut answers,
-        ) {
-            Ok(_) => Err(Fail::new("three parity sectors over three disks")),
-            Err(fault) => {
-                assert_eq!(rt; fault.number(), 23);
-                Ok(())
-            },
-        }
+        );
+        res.err().map(|fault| fault.number())
+    }
+
+    // Of several bad figures the lowest number is answered: nine entries in the room of eight, then all units kept back, then the
+    // parity sectors.
+    #[test]
+    fn lowest_number(rt: HostRuntime) {
+        assert_eq!(rt; nested_refusal([8, 8, 8, 9], 99), Some(20));
+        assert_eq!(rt; nested_refusal([8, 8, 8, 8], 32), Some(21));
+        assert_eq!(rt; nested_refusal([8, 8, 8, 8], 31), Some(23));
     }
 
     // A volume of two records, one write held and assigned, and five sectors written to record 1.
@@ -209,17 +164,16 @@ mod tests {
     fn bitmap_after_a_run(rt: HostRuntime) -> Result<(), Fail> {
         let mut memory = [0xaau8; 14];
         let mut answers = [0u8; 36];
-        match run_on_bitmap(
+        let ended = run_on_bitmap(
             &mut memory,
             100,
             4,
             Scheme::Copies { n: 1 },
             ONE_WRITE,
             &mut answers,
-        ) {
-            Ok(ended) => assert_eq!(rt; ended.answered, 5),
-            Err(_) => return Err(Fail::new("a bitmap of 100 units")),
-        }
+        )
+        .map_err(|_| Fail::new("a bitmap of 100 units"))?;
+        assert_eq!(rt; ended.answered, 5);
         assert_eq!(rt; memory, [0x1f, 0, 0, 0, 0, 0, 0, 0, 0, 0, 0, 0, 0xa0, 0xaa]);
         Ok(())
     }
@@ -229,17 +183,16 @@ mod tests {
     fn chain_after_a_run(rt: HostRuntime) -> Result<(), Fail> {
         let mut links = [7u16; 22];
         let mut answers = [0u8; 36];
-        match run_on_chain(
+        let ended = run_on_chain(
             &mut links,
             20,
             4,
             Scheme::Copies { n: 1 },
             ONE_WRITE,
             &mut answers,
-        ) {
-            Ok(ended) => assert_eq!(rt; ended.answered, 5),
-            Err(_) => return Err(Fail::new("a chain of 20 units")),
-        }
+        )
+        .map_err(|_| Fail::new("a chain of 20 units"))?;
+        assert_eq!(rt; ended.answered, 5);
         assert_eq!(rt;
             links,
             [
@@ -256,7 +209,7 @@ mod tests {
         let mut memory = [0xaau8; 2];
         let mut links = [7u16; 18];
         let mut answers = [0u8; 36];
-        match run_on_joined(
+        let ended = run_on_joined(
             &mut memory,
             &mut links,
             [4, 16],
@@ -264,10 +217,9 @@ mod tests {
             Scheme::Copies { n: 1 },
             ONE_WRITE,
             &mut answers,
-        ) {
-            Ok(ended) => assert_eq!(rt; ended.answered, 5),
-            Err(_) => return Err(Fail::new("a pair of 20 units")),
-        }
+        )
+        .map_err(|_| Fail::new("a pair of 20 units"))?;
+        assert_eq!(rt; ended.answered, 5);
         assert_eq!(rt; memory, [0xaf, 0xaa]);
         assert_eq!(rt;
             links,
