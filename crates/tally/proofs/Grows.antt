@@ -1,6 +1,6 @@
 -- New datasets.
 use Rattle.std.proofs.Common.{◌≡◌, ℕ, ◌<◌, Bool, true, false, cond, ◌&&◌, ltb, List, [], ◌∷◌, ◌++◌, length, set, None, Ok, Err, Result, sym, refl, ap, ◌∙◌, subst, arith}
-use Rattle.std.proofs.lemmas.List.{length-set, length-take-le}
+use Rattle.std.proofs.lemmas.List.{length-set}
 use Rattle.orders.specs.declared.answer.Answer.{Answer}
 use Rattle.orders.specs.declared.answer.Answer.TheVariants.{Done, Refused}
 use Rattle.orders.specs.Meaning.{folder, volume}
@@ -20,6 +20,7 @@ use Rattle.tree.specs.declared.fault.TreeFault.{TreeFault}
 use Rattle.tree.specs.declared.fault.TreeFault.TheVariants.{Missing, Full, RecordCount}
 use Rattle.tree.specs.Parts.{rows_of, kinds_of, Becomes}
 use Rattle.tree.specs.Answers.{if_folder, kind_in, child, folder_answer, volume_answer}
+use Rattle.tree.proofs.Fine.{kind-count}
 use Rattle.tally.specs.declared.Tally.{Tally}
 use Rattle.tally.specs.declared.fault.LedgerFault.TheVariants.{InTree}
 use Rattle.tally.specs.Faults.{refusal_of}
@@ -31,11 +32,6 @@ use Rattle.tally.proofs.Asks.{and_then}
 use Rattle.tally.proofs.Checks.{kind-asked}
 use Rattle.tally.proofs.Joins.{datasets_push}
 use Rattle.tally.proofs.Sounds.{sound, made-is, rows_are, shaped, still-sound, refused_did}
-
-as_many_kinds : (tree : Tree) → length (kinds_of tree) ≡ length (rows_of tree)
-as_many_kinds tree =
-    length-take-le tree.table.made tree.table.kinds (omega (arith, tree.sized, tree.lengths))
-    ∙ sym (length-take-le tree.table.made tree.table.rows (omega (arith, tree.sized, tree.lengths)))
 
 -- the checks of a new dataset: its parent a folder, room for it, and what follows
 make_by : (q : Bool) (k : Kind) (r : Bool) (p : ℕ) (others : Answer) (then : Result ℕ TreeFault) → others ≡ and_then (lifted None then) Done →
@@ -72,7 +68,7 @@ module _ (t : Tally) (p : ℕ) where
         ap (λ (ds : List Dataset). record { datasets = ds; transactions = t.transactions })
         (ap (λ (rs : List Row). datasets_in rs (kinds_of tree') (set t.contents (length (rows_of t.tree)) c)) be.rows_are
         ∙ ap (λ (ks : List Kind). datasets_in (rows_of t.tree ++ child p ∷ []) ks (set t.contents (length (rows_of t.tree)) c)) be.kinds_are
-        ∙ datasets_push (rows_of t.tree) (kinds_of t.tree) t.contents p kind c (as_many_kinds t.tree) (omega (arith, (sound t).contents_long)))
+        ∙ datasets_push (rows_of t.tree) (kinds_of t.tree) t.contents p kind c (kind-count t.tree) (omega (arith, (sound t).contents_long)))
 
     grown-rows : held_by c ≡ 0 → (cost : ℕ → ℕ) → rows_of tree' ≡ rows (figures_of cost t) (with_new (book_of t) (new p kind c))
     grown-rows nothing cost =

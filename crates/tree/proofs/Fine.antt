@@ -1,6 +1,6 @@
 -- What holds of the datasets' rows and kept charges, and that each call keeps it.
 use Rattle.std.proofs.Common.{◌≡◌, ℕ, ◌^◌, ◌<◌, ◌≤◌, true, ◌≢◌, List, [], ◌∷◌, ◌++◌, length, get_or, pos, ◌-ℤ◌, sym, refl, ap, ◌∙◌, inl, inr, arith}
-use Rattle.std.proofs.lemmas.List.{get_or_past, length-take-le, length_push, get_or_push, get_or_append_left}
+use Rattle.std.proofs.lemmas.List.{get_or_past, length-map, length_push, get_or_push, get_or_append_left}
 use Rattle.std.proofs.lemmas.Bool.{cases_eq, cases_lt}
 use Rattle.charges.specs.declared.Row.{Row}
 use Rattle.charges.specs.Amounts.{reweighed}
@@ -28,16 +28,19 @@ pub record Fine (room : ℕ) (rows : List Row) (kept : List ℕ) : Type 0 where
   pub root_quota : (row rows 0).quota ≡ 0
 
 -- how many datasets there are
-pub count : (t : Tree) → length (rows_of t) ≡ t.table.made
-count t = length-take-le t.table.made t.table.rows (omega (arith, t.sized, t.lengths))
+pub count : (t : Tree) → length (rows_of t) ≡ length t.nodes.items
+count t = length-map t.nodes.items (λ node. node.row)
 
-pub kept-count : (t : Tree) → length (charges_of t) ≡ t.table.made
-kept-count t = length-take-le t.table.made t.table.charges (omega (arith, t.sized, t.lengths))
+pub kept-count : (t : Tree) → length (charges_of t) ≡ length (rows_of t)
+kept-count t = length-map t.nodes.items (λ node. node.charge) ∙ sym (count t)
+
+pub kind-count : (t : Tree) → length (kinds_of t) ≡ length (rows_of t)
+kind-count t = length-map t.nodes.items (λ node. node.kind) ∙ sym (count t)
 
 pub fine : (t : Tree) → Fine (room_of t) (rows_of t) (charges_of t)
 fine t = record {
   rooted = t.rooted;
-  keeps = record { as_long = kept-count t ∙ sym (count t); right = t.kept };
+  keeps = record { as_long = kept-count t; right = t.kept };
   within = t.within;
   reserved = t.reserved;
   root_reservation = t.root.0;
@@ -53,7 +56,7 @@ sound t = record {
   small = t.sized.0;
   some = omega (arith, count t, t.sized);
   few = omega (arith, count t, t.sized);
-  as_many = length-take-le t.table.made t.table.kinds (omega (arith, t.sized, t.lengths)) ∙ sym (count t);
+  as_many = kind-count t;
   rooted = t.rooted;
   keeps = (fine t).keeps;
   within = t.within;

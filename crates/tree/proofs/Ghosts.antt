@@ -1,36 +1,40 @@
 -- What a tree's fields owe after each write.
-use Rattle.std.proofs.Common.{◌≡◌, ℕ, ◌+◌, ◌^◌, ◌<◌, ◌≤◌, true, ◌≢◌, [], ◌∷◌, ◌++◌, length, get_or, take, set, ℤ, pos, ◌-ℤ◌, sym, refl, ap, ◌∙◌, subst, arith}
-use Rattle.std.proofs.lemmas.List.{length-set, take_more_set, get_or_append_left, length-take-le}
+use Rattle.std.proofs.Common.{◌≡◌, ℕ, zero, suc, ◌^◌, ◌<◌, ◌≤◌, true, ◌≢◌, List, [], ◌∷◌, ◌++◌, length, get_or, set, ℤ, pos, ◌-ℤ◌, sym, refl, ap, ◌∙◌, subst, arith}
+use Rattle.std.proofs.Math.ListN.{get_or-map}
+use Rattle.std.proofs.Math.Seq.{map-set_same}
+use Rattle.std.proofs.lemmas.List.{length-set, length-map, length_push, map-set, map-append, get_or_append_left}
+use Rattle.arrayvec.specs.ArrayVec.{with_items}
+use Rattle.arrayvec.proofs.ArrayVecLemmas.{items-with_items}
 use Rattle.charges.specs.declared.Row.{Row}
 use Rattle.charges.specs.Amounts.{reweighed}
-use Rattle.charges.specs.Tree.{blank, row, Rooted, charge, WithinLimits, path, with_own, with_reservation}
+use Rattle.charges.specs.Tree.{blank, row, Rooted, charge, load, Within, WithinLimits, path, with_own, with_reservation, with_quota}
 use Rattle.charges.specs.Keep.{spread}
 use Rattle.rules.specs.declared.state.Kind.{Kind}
 use Rattle.rules.specs.declared.state.Kind.TheVariants.{Folder}
 use Rattle.tree.specs.Fields.{Sized, Kept, InQuotas, FreeRoot, is_folder}
 use Rattle.tree.specs.declared.Tree.{Tree}
-use Rattle.tree.specs.declared.table.Table.{Table}
-use Rattle.tree.specs.Tables.{rows_in, charges_in, kinds_in, Lengths, SamePlaces, Settled}
+use Rattle.tree.specs.declared.node.Node.{Node}
+use Rattle.tree.specs.declared.step.Arrival.{Arrival}
+use Rattle.tree.specs.Nodes.{rows_in, charges_in, kinds_in, SamePlaces, Settled}
 use Rattle.tree.specs.Parts.{room_of, rows_of, charges_of, kinds_of}
 use Rattle.tree.specs.Answers.{child}
-use Rattle.tree.proofs.Fronts.{under, front_edit}
-use Rattle.tree.proofs.Fine.{Fine, fine, count, fine-own, fine-reservation, fine-quota, fine-new, kept_small}
+use Rattle.tree.proofs.Settling.{no_node}
+use Rattle.tree.proofs.Fine.{Fine, fine, count, kind-count, fine-own, fine-reservation, fine-quota, fine-new, kept_small}
 
-abbrev pub Ghosts : ℕ → Table → Type 0
-Ghosts room t = record {
-  sized : Sized room t.made;
-  lengths : Lengths t;
-  rooted : Rooted (rows_in t);
-  kept : Kept (rows_in t) (charges_in t);
-  within : WithinLimits room (rows_in t);
-  reserved : InQuotas (rows_in t);
-  root : FreeRoot (rows_in t) (kinds_in t);
+abbrev pub Ghosts : ℕ → List Node → Type 0
+Ghosts room nodes = record {
+  sized : Sized room (length nodes);
+  rooted : Rooted (rows_in nodes);
+  kept : Kept (rows_in nodes) (charges_in nodes);
+  within : WithinLimits room (rows_in nodes);
+  reserved : InQuotas (rows_in nodes);
+  root : FreeRoot (rows_in nodes) (kinds_in nodes);
 }
 
-ghosts : (room : ℕ) (t : Table) → Sized room t.made → Lengths t → Fine room (rows_in t) (charges_in t) → is_folder (get_or (kinds_in t) 0 Folder) ≡ true → Ghosts room t
-ghosts room t sized full f folder = record {
+ghosts : (room : ℕ) (nodes : List Node) → Sized room (length nodes) → Fine room (rows_in nodes) (charges_in nodes) →
+    is_folder (get_or (kinds_in nodes) 0 Folder) ≡ true → Ghosts room nodes
+ghosts room nodes sized f folder = record {
   sized = sized;
-  lengths = full;
   rooted = f.rooted;
   kept = f.keeps.right;
   within = f.within;
@@ -38,26 +42,44 @@ ghosts room t sized full f folder = record {
   root = (f.root_reservation, f.root_quota, folder);
 }
 
--- t1 with the row of d edited
-abbrev pub edited : Table → ℕ → (Row → Row) → Table
-edited t1 d f = record { made = t1.made; rows = set t1.rows d (f (get_or t1.rows d blank)); charges = t1.charges; kinds = t1.kinds }
+-- a node with its row edited
+abbrev pub with_row : Node → (Row → Row) → Node
+with_row node f = record { row = f node.row; charge = node.charge; kind = node.kind }
 
-module _ (t : Tree) (t1 : Table) (same : SamePlaces t.table t1) (d : ℕ) (f : Row → Row) (l : d < length (rows_of t)) where
-  pub edited-rows : rows_in (edited t1 d f) ≡ set (rows_of t) d (f (row (rows_of t) d))
+-- the nodes with the row of d edited
+abbrev pub edited : List Node → ℕ → (Row → Row) → List Node
+edited nodes d f = set nodes d (with_row (get_or nodes d no_node) f)
+
+-- what is settled through a slice that shows the old nodes is settled in them
+pub settled_from : (seen old now : List Node) (arrival : Arrival) → seen ≡ old → Settled seen now arrival → Settled old now arrival
+settled_from seen old now arrival e settled = subst (λ nodes. Settled nodes now arrival) e settled
+
+-- after the row of d is edited through the slice, and the charges before it
+module _ (t : Tree) (now : List Node) (same : SamePlaces t.nodes.items now) (d i : ℕ) (at : i ≡ d) (f : Row → Row) where
+  as_long : length (edited now i f) ≡ length t.nodes.items
+  as_long = length-set now i _ ∙ sym (length-map now (λ n. n.row)) ∙ ap length same.same_rows ∙ length-map t.nodes.items (λ n. n.row)
+
+  written : (with_items t.nodes (edited now i f)).items ≡ edited now d f
+  written = items-with_items t.nodes (edited now i f) as_long ∙ ap (λ j. edited now j f) at
+
+  pub edited-rows : rows_in (with_items t.nodes (edited now i f)).items ≡ set (rows_of t) d (f (row (rows_of t) d))
   edited-rows =
-      ap (λ n. take n (set t1.rows d (f (get_or t1.rows d blank)))) same.same_made
-      ∙ ap (λ rs. take t.table.made (set rs d (f (get_or rs d blank)))) same.same_rows
-      ∙ front_edit t.table.made t.table.rows d blank f (under t.table.made t.table.rows d l)
+      ap rows_in written ∙ map-set (λ n. n.row) now d _
+      ∙ ap (λ r. set (rows_in now) d (f r)) (sym (get_or-map (λ n. n.row) now d no_node))
+      ∙ ap (λ rows. set rows d (f (row rows d))) same.same_rows
 
-  pub edited_kinds : kinds_in (edited t1 d f) ≡ kinds_of t
-  edited_kinds = ap (λ n. take n t1.kinds) same.same_made ∙ ap (take t.table.made) same.same_kinds
+  pub edited_kinds : kinds_in (with_items t.nodes (edited now i f)).items ≡ kinds_of t
+  edited_kinds = ap kinds_in written ∙ map-set_same (λ n. n.kind) now d _ no_node refl ∙ same.same_kinds
 
-  edited-ghosts : Fine (room_of t) (set (rows_of t) d (f (row (rows_of t) d))) (charges_in t1) → Ghosts (room_of t) (edited t1 d f)
+  edited_charges : charges_in (with_items t.nodes (edited now i f)).items ≡ charges_in now
+  edited_charges = ap charges_in written ∙ map-set_same (λ n. n.charge) now d _ no_node refl
+
+  edited-ghosts : Fine (room_of t) (set (rows_of t) d (f (row (rows_of t) d))) (charges_in now) → Ghosts (room_of t) (with_items t.nodes (edited now i f)).items
   edited-ghosts fine' =
-      ghosts (room_of t) (edited t1 d f)
-      (t.sized.0, omega (arith, same.same_made, t.sized), omega (arith, same.same_made, t.sized))
-      (length-set t1.rows d _ ∙ ap length same.same_rows ∙ t.lengths.0, same.as_long ∙ t.lengths.1, ap length same.same_kinds ∙ t.lengths.2)
-      (subst (λ rs. Fine (room_of t) rs (charges_in t1)) (sym edited-rows) fine')
+      ghosts (room_of t) (with_items t.nodes (edited now i f)).items
+      (subst (Sized (room_of t)) (sym (ap length (items-with_items t.nodes (edited now i f) as_long) ∙ as_long)) t.sized)
+      (subst (λ rs. Fine (room_of t) rs (charges_in (with_items t.nodes (edited now i f)).items)) (sym edited-rows)
+      (subst (Fine (room_of t) (set (rows_of t) d (f (row (rows_of t) d)))) (sym edited_charges) fine'))
       (ap (λ ks. is_folder (get_or ks 0 Folder)) edited_kinds ∙ t.root.2)
 
 abbrev pub put_own : ℕ → Row → Row
@@ -69,13 +91,14 @@ put_reservation x r = record { parent = r.parent; quota = r.quota; reservation =
 abbrev pub put_quota : ℕ → Row → Row
 put_quota x r = record { parent = r.parent; quota = x; reservation = r.reservation; own = r.own }
 
-pub nothing-moved : (t : Table) → SamePlaces t t
-nothing-moved t = record { same_made = refl; same_rows = refl; same_kinds = refl; as_long = refl }
+pub nothing-moved : (old now : List Node) → now ≡ old → SamePlaces old now
+nothing-moved old now e = record { same_rows = ap rows_in e; same_kinds = ap kinds_in e }
 
-pub quota-ghosts : (t : Tree) (d x : ℕ) → d < length (rows_of t) → 0 < d →
-    (x ≢ 0 → (charge (rows_of t) d ≤ x) × ((row (rows_of t) d).reservation ≤ x)) → Ghosts (room_of t) (edited t.table d (put_quota x))
-quota-ghosts t d x l gt enough =
-    edited-ghosts t t.table (nothing-moved t.table) d (put_quota x) l (fine-quota (room_of t) (rows_of t) (charges_of t) (fine t) d x l gt enough)
+pub quota-ghosts : (t : Tree) (d i x : ℕ) (now : List Node) → now ≡ t.nodes.items → i ≡ d → d < length (rows_of t) → 0 < d →
+    (x ≢ 0 → (charge (rows_of t) d ≤ x) × ((row (rows_of t) d).reservation ≤ x)) → Ghosts (room_of t) (with_items t.nodes (edited now i (put_quota x))).items
+quota-ghosts t d i x now e at l gt enough =
+    edited-ghosts t now (nothing-moved t.nodes.items now e) d i at (put_quota x)
+    (subst (λ kept. Fine (room_of t) (with_quota (rows_of t) d x) kept) (ap charges_in (sym e)) (fine-quota (room_of t) (rows_of t) (charges_of t) (fine t) d x l gt enough))
 
 module _ (t : Tree) (d x : ℕ) (k : ℤ) (l : d < length (rows_of t)) (is : k ≡ pos x -ℤ pos (row (rows_of t) d).own) (within : WithinLimits (room_of t) (with_own (rows_of t) d x)) where
   own-fine : Fine (room_of t) (with_own (rows_of t) d x) (spread (rows_of t) (path (rows_of t) d) k (charges_of t))
@@ -86,9 +109,10 @@ module _ (t : Tree) (d x : ℕ) (k : ℤ) (l : d < length (rows_of t)) (is : k �
   pub own-fits : (j : ℕ) → get_or (spread (rows_of t) (path (rows_of t) d) k (charges_of t)) j 0 < 2 ^ 16
   own-fits = kept_small (room_of t) (with_own (rows_of t) d x) (spread (rows_of t) (path (rows_of t) d) k (charges_of t)) own-fine t.sized.0
 
-  pub own-ghosts : (t1 : Table) → Settled t.table t1 d k → Ghosts (room_of t) (edited t1 d (put_own x))
-  own-ghosts t1 s =
-      edited-ghosts t t1 s.places d (put_own x) l (subst (λ ks. Fine (room_of t) (with_own (rows_of t) d x) ks) (sym s.charges_are) own-fine)
+  pub own-ghosts : (now : List Node) → Settled t.nodes.items now (record { dataset = d; change = k }) → (i : ℕ) → i ≡ d →
+      Ghosts (room_of t) (with_items t.nodes (edited now i (put_own x))).items
+  own-ghosts now s i at =
+      edited-ghosts t now s.places d i at (put_own x) (subst (λ ks. Fine (room_of t) (with_own (rows_of t) d x) ks) (sym s.charges_are) own-fine)
 
 module _ (t : Tree) (d x p : ℕ) (k : ℤ) (l : d < length (rows_of t)) (gt : 0 < d) (parent : p ≡ (row (rows_of t) d).parent)
     (is : k ≡ reweighed (charge (rows_of t) d) (row (rows_of t) d).reservation x) (allowed : (row (rows_of t) d).quota ≢ 0 → x ≤ (row (rows_of t) d).quota)
@@ -104,37 +128,59 @@ module _ (t : Tree) (d x p : ℕ) (k : ℤ) (l : d < length (rows_of t)) (gt : 0
   pub reservation-fits : (j : ℕ) → get_or (spread (rows_of t) (path (rows_of t) p) k (charges_of t)) j 0 < 2 ^ 16
   reservation-fits = kept_small (room_of t) (with_reservation (rows_of t) d x) (spread (rows_of t) (path (rows_of t) p) k (charges_of t)) reservation-fine t.sized.0
 
-  pub reservation-ghosts : (t1 : Table) → Settled t.table t1 p k → Ghosts (room_of t) (edited t1 d (put_reservation x))
-  reservation-ghosts t1 s =
-      edited-ghosts t t1 s.places d (put_reservation x) l (subst (λ ks. Fine (room_of t) (with_reservation (rows_of t) d x) ks) (sym s.charges_are) reservation-fine)
+  pub reservation-ghosts : (now : List Node) → Settled t.nodes.items now (record { dataset = p; change = k }) → (i : ℕ) → i ≡ d →
+      Ghosts (room_of t) (with_items t.nodes (edited now i (put_reservation x))).items
+  reservation-ghosts now s i at =
+      edited-ghosts t now s.places d i at (put_reservation x) (subst (λ ks. Fine (room_of t) (with_reservation (rows_of t) d x) ks) (sym s.charges_are) reservation-fine)
 
 -- one more dataset
-abbrev pub grown : Table → ℕ → Kind → Table
-grown t parent kind = record {
-  made = t.made + 1;
-  rows = set t.rows t.made (child parent);
-  charges = set t.charges t.made 0;
-  kinds = set t.kinds t.made kind;
-}
+abbrev pub grown : List Node → ℕ → Kind → List Node
+grown nodes parent kind = nodes ++ record { row = child parent; charge = 0; kind = kind } ∷ []
 
-module _ (t : Tree) (parent : ℕ) (kind : Kind) (l : parent < length (rows_of t)) (vacant : length (rows_of t) < 64) where
-  pub grown-rows : rows_in (grown t.table parent kind) ≡ rows_of t ++ child parent ∷ []
-  grown-rows = take_more_set t.table.rows t.table.made (child parent) (omega (arith, count t, t.lengths))
+module _ (nodes : List Node) (parent : ℕ) (kind : Kind) where
+  pub grown-rows : rows_in (grown nodes parent kind) ≡ rows_in nodes ++ child parent ∷ []
+  grown-rows = map-append (λ n. n.row) nodes _
 
-  grown-charges : charges_in (grown t.table parent kind) ≡ charges_of t ++ 0 ∷ []
-  grown-charges = take_more_set t.table.charges t.table.made 0 (omega (arith, count t, t.lengths))
+  grown-charges : charges_in (grown nodes parent kind) ≡ charges_in nodes ++ 0 ∷ []
+  grown-charges = map-append (λ n. n.charge) nodes _
 
-  pub grown_kinds : kinds_in (grown t.table parent kind) ≡ kinds_of t ++ kind ∷ []
-  grown_kinds = take_more_set t.table.kinds t.table.made kind (omega (arith, count t, t.lengths))
+  pub grown_kinds : kinds_in (grown nodes parent kind) ≡ kinds_in nodes ++ kind ∷ []
+  grown_kinds = map-append (λ n. n.kind) nodes _
 
-  pub grown-ghosts : Ghosts (room_of t) (grown t.table parent kind)
-  grown-ghosts =
-      let some : 0 < length (rows_of t) = omega arith in
-      let new = fine-new (room_of t) (rows_of t) (charges_of t) (fine t) (child parent) some l refl refl refl in
-      let first : get_or (kinds_of t ++ kind ∷ []) 0 Folder ≡ get_or (kinds_of t) 0 Folder =
-      get_or_append_left (kinds_of t) (kind ∷ []) Folder 0 (omega (arith, length-take-le t.table.made t.table.kinds (omega (arith, t.sized, t.lengths)), t.sized)) in
-      ghosts (room_of t) (grown t.table parent kind)
-      (t.sized.0, omega arith, omega (arith, count t))
-      (length-set t.table.rows t.table.made _ ∙ t.lengths.0, length-set t.table.charges t.table.made _ ∙ t.lengths.1, length-set t.table.kinds t.table.made _ ∙ t.lengths.2)
-      (subst (λ rs. Fine (room_of t) rs (charges_in (grown t.table parent kind))) (sym grown-rows) (subst (λ ks. Fine (room_of t) (rows_of t ++ child parent ∷ []) ks) (sym grown-charges) new))
-      (ap (λ ks. is_folder (get_or ks 0 Folder)) grown_kinds ∙ ap is_folder first ∙ t.root.2)
+pub grown-ghosts : (t : Tree) (parent : ℕ) (kind : Kind) → parent < length (rows_of t) → length (rows_of t) < 64 → Ghosts (room_of t) (grown t.nodes.items parent kind)
+grown-ghosts t parent kind l vacant =
+    let some : 0 < length (rows_of t) = omega arith in
+    let new = fine-new (room_of t) (rows_of t) (charges_of t) (fine t) (child parent) some l refl refl refl in
+    let first : get_or (kinds_of t ++ kind ∷ []) 0 Folder ≡ get_or (kinds_of t) 0 Folder =
+    get_or_append_left (kinds_of t) (kind ∷ []) Folder 0 (omega (arith, kind-count t)) in
+    ghosts (room_of t) (grown t.nodes.items parent kind)
+    (t.sized.0, omega (arith, length_push t.nodes.items (record { row = child parent; charge = 0; kind = kind })), omega (arith, count t, length_push t.nodes.items (record { row = child parent; charge = 0; kind = kind })))
+    (subst (λ rs. Fine (room_of t) rs (charges_in (grown t.nodes.items parent kind))) (sym (grown-rows t.nodes.items parent kind))
+    (subst (λ ks. Fine (room_of t) (rows_of t ++ child parent ∷ []) ks) (sym (grown-charges t.nodes.items parent kind)) new))
+    (ap (λ ks. is_folder (get_or ks 0 Folder)) (grown_kinds t.nodes.items parent kind) ∙ ap is_folder first ∙ t.root.2)
+
+-- the root alone: nothing is charged
+module _ (room : ℕ) where
+  first_kept : (d : ℕ) → d < 1 → get_or {A = ℕ} (0 ∷ []) d 0 ≡ charge (blank ∷ []) d
+  unfolding charge load
+  first_kept zero l = refl
+  first_kept (suc d) l = absurd (omega arith)
+
+  first_within : (d : ℕ) → d < 1 → Within room (blank ∷ []) d
+  unfolding charge load
+  first_within zero l = omega arith
+  first_within (suc d) l = absurd (omega arith)
+
+  first_quota : (d : ℕ) → d < 1 → (get_or (blank ∷ []) d blank).quota ≡ 0
+  first_quota zero l = refl
+  first_quota (suc d) l = absurd (omega arith)
+
+  pub fresh-ghosts : room < 2 ^ 16 → Ghosts room (no_node ∷ [])
+  fresh-ghosts small = record {
+    sized = (small, omega arith, omega arith);
+    rooted = λ k gt l. absurd (omega arith);
+    kept = first_kept;
+    within = first_within;
+    reserved = λ d l some. absurd (some (first_quota d l));
+    root = (refl, refl, refl);
+  }

@@ -1,4 +1,3 @@
-pub mod Fronts
 pub mod Settling
 pub mod Walking
 pub mod Fine

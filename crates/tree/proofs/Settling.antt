@@ -1,6 +1,8 @@
 -- A change on its way up, as a loop meets it: each turn leaves the same answer to come.
-use Rattle.std.proofs.Common.{◌≡◌, ℕ, zero, suc, ◌^◌, ◌<◌, min, eqb, ◌≢◌, List, [], ◌∷◌, length, get_or, take, set, ℤ, Some, None, sym, refl, ap, ◌∙◌, subst, inl, inr, arith}
-use Rattle.std.proofs.lemmas.List.{length-set, get_or-set_same, get_or-set_other, get_or-take, length-take}
+use Rattle.std.proofs.Common.{◌≡◌, ℕ, zero, suc, ◌^◌, ◌<◌, eqb, ◌≢◌, List, [], ◌∷◌, length, get_or, set, ℤ, Some, None, sym, refl, ap, ◌∙◌, subst, inl, inr, arith}
+use Rattle.std.proofs.Math.ListN.{get_or-map}
+use Rattle.std.proofs.Math.Seq.{map-set_same}
+use Rattle.std.proofs.lemmas.List.{length-set, length-map, map-set, get_or-set_same, get_or-set_other}
 use Rattle.std.proofs.lemmas.Bool.{cases_lt, eq-eqb, ne_eqb, cond-true, cond-false}
 use Rattle.std.specs.List.{AllByRecursion}
 use Rattle.charges.specs.declared.Row.{Row}
@@ -9,38 +11,36 @@ use Rattle.charges.specs.Tree.{blank, row, Rooted, path}
 use Rattle.charges.specs.Keep.{spread}
 use Rattle.charges.proofs.Paths.{path_le, all_from_has, on_reaches}
 use Rattle.charges.proofs.Spreads.{spread_equation}
+use Rattle.rules.specs.declared.state.Kind.TheVariants.{Folder}
+use Rattle.tree.specs.declared.node.Node.{Node}
+use Rattle.tree.specs.declared.step.Arrival.{Arrival}
 use Rattle.tree.specs.Steps.{onward_from}
-use Rattle.tree.specs.declared.table.Table.{Table}
-use Rattle.tree.specs.Tables.{rows_in, charges_in, Lengths, SamePlaces, Settled}
-use Rattle.tree.proofs.Fronts.{front-set, under}
+use Rattle.tree.specs.Nodes.{rows_in, charges_in, SamePlaces, Settled}
+
+abbrev above : Arrival → Node → Arrival
+above at node = record { dataset = node.row.parent; change = passed node.charge node.row.reservation at.change }
 
 -- what it says that a change goes on, or that it does not
-pub record Onward (d : ℕ) (r : Row) (x : ℕ) (c : ℤ) (p : ℕ) (c' : ℤ) : Type 0 where
-  pub below : 0 < d
-  pub parent_is : p ≡ r.parent
-  pub change_is : c' ≡ passed x r.reservation c
+pub record Onward (at : Arrival) (node : Node) (next : Arrival) : Type 0 where
+  pub below : 0 < at.dataset
+  pub parent_is : next.dataset ≡ node.row.parent
+  pub change_is : next.change ≡ passed node.charge node.row.reservation at.change
 
-onward-root : (d : ℕ) (r : Row) (x : ℕ) (c : ℤ) → d ≡ 0 → onward_from d r x c ≡ None
-onward-root d r x c e = cond-true (eqb d 0) None (Some (r.parent, passed x r.reservation c)) (eq-eqb d 0 e)
-
-onward-up : (d : ℕ) (r : Row) (x : ℕ) (c : ℤ) → 0 < d → onward_from d r x c ≡ Some (r.parent, passed x r.reservation c)
-onward-up d r x c gt = cond-false (eqb d 0) None (Some (r.parent, passed x r.reservation c)) (ne_eqb d 0 (omega arith))
-
-pub goes_on : (d : ℕ) (r : Row) (x : ℕ) (c : ℤ) (p : ℕ) (c' : ℤ) → Some (p, c') ≡ onward_from d r x c → Onward d r x c p c'
-goes_on d r x c p c' e = elim (cases_lt 0 d) [
+pub goes_on : (at : Arrival) (node : Node) (next : Arrival) → Some next ≡ onward_from at node → Onward at node next
+goes_on at node next e = elim (cases_lt 0 at.dataset) [
   | inl gt ↦
-      let up = onward-up d r x c gt in
-      let same : ◌≡◌ {A = ℕ × ℤ} (p, c') (r.parent, passed x r.reservation c) = cc in
-      record { below = gt; parent_is = ap (λ (q : ℕ × ℤ). q.0) same; change_is = ap (λ (q : ℕ × ℤ). q.1) same }
+      let up = cond-false (eqb at.dataset 0) None (Some (above at node)) (ne_eqb at.dataset 0 (omega arith)) in
+      let same : next ≡ above at node = cc in
+      record { below = gt; parent_is = ap (λ (n : Arrival). n.dataset) same; change_is = ap (λ (n : Arrival). n.change) same }
   | inr root ↦
-      let end = onward-root d r x c (omega arith) in
+      let end = cond-true (eqb at.dataset 0) None (Some (above at node)) (eq-eqb at.dataset 0 (omega arith)) in
       let z : ◌≡◌ {A = ℕ} 0 1 = cc in absurd (omega arith)
 ]
 
-pub stops : (d : ℕ) (r : Row) (x : ℕ) (c : ℤ) → None ≡ onward_from d r x c → d ≡ 0
-stops d r x c e = elim (cases_lt 0 d) [
+pub stops : (at : Arrival) (node : Node) → None ≡ onward_from at node → at.dataset ≡ 0
+stops at node e = elim (cases_lt 0 at.dataset) [
   | inl gt ↦
-      let up = onward-up d r x c gt in
+      let up = cond-false (eqb at.dataset 0) None (Some (above at node)) (ne_eqb at.dataset 0 (omega arith)) in
       let z : ◌≡◌ {A = ℕ} 0 1 = cc in absurd (omega arith)
   | inr root ↦ omega arith
 ]
@@ -86,76 +86,93 @@ module _ (rows : List Row) (rooted : Rooted rows) (whole : List ℕ) (d : ℕ) (
 pub settled : (rows : List Row) (whole : List ℕ) (c : ℤ) (kept : List ℕ) → Settling rows whole 0 c kept → set kept 0 (changed (get_or kept 0 0) c) ≡ whole
 settled rows whole c kept going = sym (spread_equation.root rows c kept) ∙ going.same
 
--- The same over the tables: t is t0 but for the charges that are kept.
-pub record Coming (t0 : Table) (whole : List ℕ) (d : ℕ) (c : ℤ) (t : Table) : Type 0 where
-  pub few : d < 64
-  pub places : SamePlaces t0 t
-  pub going : Settling (rows_in t0) whole d c (take t0.made t.charges)
+-- a node that holds nothing
+abbrev pub no_node : Node
+no_node = record { row = blank; charge = 0; kind = Folder }
 
-pub first : (t : Table) (d : ℕ) (c : ℤ) → Lengths t → d < length (rows_in t) → Coming t (spread (rows_in t) (path (rows_in t) d) c (charges_in t)) d c t
-first t d c full l = record {
-  few = omega (arith, length-take t.made t.rows, full);
-  places = record { same_made = refl; same_rows = refl; same_kinds = refl; as_long = refl };
-  going = record { inside = l; long = length-take t.made t.charges ∙ ap (min t.made) (full.1 ∙ sym full.0) ∙ sym (length-take t.made t.rows); same = refl };
+-- a node with another charge
+abbrev pub charged : Node → ℕ → Node
+charged node x = record { row = node.row; charge = x; kind = node.kind }
+
+-- The same over the nodes: now is old but for the charges that are kept.
+pub record Coming (old : List Node) (whole : List ℕ) (at : Arrival) (now : List Node) : Type 0 where
+  pub inside : at.dataset < length now
+  pub places : SamePlaces old now
+  pub going : Settling (rows_in old) whole at.dataset at.change (charges_in now)
+
+pub first : (nodes : List Node) (at : Arrival) → at.dataset < length nodes →
+    Coming nodes (spread (rows_in nodes) (path (rows_in nodes) at.dataset) at.change (charges_in nodes)) at nodes
+first nodes at l = record {
+  inside = l;
+  places = record { same_rows = refl; same_kinds = refl };
+  going = record {
+    inside = omega (arith, length-map nodes (λ n. n.row));
+    long = length-map nodes (λ n. n.charge) ∙ sym (length-map nodes (λ n. n.row));
+    same = refl;
+  };
 }
 
-module _ (t0 : Table) (whole : List ℕ) (d : ℕ) (c : ℤ) (t : Table) (rooted : Rooted (rows_in t0)) (come : Coming t0 whole d c t) where
-  low : d < t0.made
-  low = under t0.made t0.rows d come.going.inside
+module _ (old : List Node) (whole : List ℕ) (at : Arrival) (now : List Node) (rooted : Rooted (rows_in old)) (come : Coming old whole at now)
+    (i : ℕ) (is : i ≡ at.dataset) where
+  abbrev node : Node
+  node = get_or now i no_node
 
-  read_charge : get_or (take t0.made t.charges) d 0 ≡ get_or t.charges d 0
-  read_charge = get_or-take t0.made t.charges d 0 low
+  read : node ≡ get_or now at.dataset no_node
+  read = ap (λ j. get_or now j no_node) is
 
-  read_row : get_or t.rows d blank ≡ row (rows_in t0) d
-  read_row = ap (λ rs. get_or rs d blank) come.places.same_rows ∙ sym (get_or-take t0.made t0.rows d blank low)
+  read_charge : get_or (charges_in now) at.dataset 0 ≡ node.charge
+  read_charge = get_or-map (λ n. n.charge) now at.dataset no_node ∙ ap (λ (n : Node). n.charge) (sym read)
+
+  read_row : row (rows_in old) at.dataset ≡ node.row
+  read_row =
+      ap (λ rows. row rows at.dataset) (sym come.places.same_rows) ∙ get_or-map (λ n. n.row) now at.dataset no_node ∙ ap (λ (n : Node). n.row) (sym read)
 
   -- what is written is what the whole spread leaves there
-  pub come_fits : ((k : ℕ) → get_or whole k 0 < 2 ^ 16) → (x : ℕ) → x ≡ changed (get_or t.charges d 0) c → x < 2 ^ 16
+  pub come_fits : ((k : ℕ) → get_or whole k 0 < 2 ^ 16) → (x : ℕ) → x ≡ changed node.charge at.change → x < 2 ^ 16
   come_fits small x e =
-      let is : get_or whole d 0 ≡ x = written (rows_in t0) rooted whole d c (take t0.made t.charges) come.going ∙ ap (λ y. changed y c) read_charge ∙ sym e in
-      subst (λ n. n < 2 ^ 16) is (small d)
+      let same : get_or whole at.dataset 0 ≡ x =
+      written (rows_in old) rooted whole at.dataset at.change (charges_in now) come.going ∙ ap (λ y. changed y at.change) read_charge ∙ sym e in
+      subst (λ n. n < 2 ^ 16) same (small at.dataset)
 
-  put : (x : ℕ) → x ≡ changed (get_or t.charges d 0) c →
-      set (take t0.made t.charges) d (changed (get_or (take t0.made t.charges) d 0) c) ≡ take t0.made (set t.charges d x)
-  put x e = ap (set (take t0.made t.charges) d) (ap (λ y. changed y c) read_charge ∙ sym e) ∙ sym (front-set t0.made t.charges d x)
+  module _ (x : ℕ) (e : x ≡ changed node.charge at.change) where
+    put : set (charges_in now) at.dataset (changed (get_or (charges_in now) at.dataset 0) at.change) ≡ charges_in (set now i (charged node x))
+    put = ap (set (charges_in now) at.dataset) (ap (λ y. changed y at.change) read_charge ∙ sym e) ∙ sym (ap (λ j. set (charges_in now) j x) is)
+        ∙ sym (map-set (λ n. n.charge) now i (charged node x))
 
-  places_on : (x : ℕ) → SamePlaces t0 (record { made = t.made; rows = t.rows; charges = set t.charges d x; kinds = t.kinds })
-  places_on x = record {
-    same_made = come.places.same_made;
-    same_rows = come.places.same_rows;
-    same_kinds = come.places.same_kinds;
-    as_long = length-set t.charges d x ∙ come.places.as_long;
-  }
+    places_on : SamePlaces old (set now i (charged node x))
+    places_on = record {
+      same_rows = map-set_same (λ n. n.row) now i (charged node x) no_node refl ∙ come.places.same_rows;
+      same_kinds = map-set_same (λ n. n.kind) now i (charged node x) no_node refl ∙ come.places.same_kinds;
+    }
 
-  pub come_less : (p : ℕ) (c' : ℤ) → Some (p, c') ≡ onward_from d (get_or t.rows d blank) (get_or t.charges d 0) c → p < d
-  come_less p c' some =
-      let on = goes_on d (get_or t.rows d blank) (get_or t.charges d 0) c p c' some in
-      let parent : (row (rows_in t0) d).parent ≡ p = ap (λ (r : Row). r.parent) (sym read_row) ∙ sym on.parent_is in
-      omega (arith, rooted d on.below come.going.inside)
+    pub come_on : (next : Arrival) → Some next ≡ onward_from at node → Coming old whole next (set now i (charged node x))
+    come_on next some =
+        let on = goes_on at node next some in
+        let going = again (rows_in old) rooted whole at.dataset at.change (charges_in now) come.going on.below in
+        let parent : (row (rows_in old) at.dataset).parent ≡ next.dataset = ap (λ (r : Row). r.parent) read_row ∙ sym on.parent_is in
+        let change : passed (get_or (charges_in now) at.dataset 0) (row (rows_in old) at.dataset).reservation at.change ≡ next.change =
+        ap (λ y. passed y (row (rows_in old) at.dataset).reservation at.change) read_charge
+        ∙ ap (λ (r : Row). passed node.charge r.reservation at.change) read_row ∙ sym on.change_is in
+        record {
+          inside = omega (arith, rooted at.dataset on.below come.going.inside, come.inside, length-set now i (charged node x));
+          places = places_on;
+          going = subst (λ q. Settling (rows_in old) whole q next.change (charges_in (set now i (charged node x)))) parent
+              (subst (λ y. Settling (rows_in old) whole (row (rows_in old) at.dataset).parent y (charges_in (set now i (charged node x)))) change
+              (subst (λ ks. Settling (rows_in old) whole (row (rows_in old) at.dataset).parent (passed (get_or (charges_in now) at.dataset 0) (row (rows_in old) at.dataset).reservation at.change) ks) put going));
+        }
 
-  pub come_on : (x p : ℕ) (c' z : ℤ) → x ≡ changed (get_or t.charges d 0) c → Some (p, c') ≡ onward_from d (get_or t.rows d blank) (get_or t.charges d 0) c → z ≡ c' →
-      Coming t0 whole p z (record { made = t.made; rows = t.rows; charges = set t.charges d x; kinds = t.kinds })
-  come_on x p c' z e some is =
-      let on = goes_on d (get_or t.rows d blank) (get_or t.charges d 0) c p c' some in
-      let next = again (rows_in t0) rooted whole d c (take t0.made t.charges) come.going on.below in
-      let parent : (row (rows_in t0) d).parent ≡ p = ap (λ (r : Row). r.parent) (sym read_row) ∙ sym on.parent_is in
-      let change : passed (get_or (take t0.made t.charges) d 0) (row (rows_in t0) d).reservation c ≡ z =
-      ap (λ y. passed y (row (rows_in t0) d).reservation c) read_charge
-      ∙ ap (λ (r : Row). passed (get_or t.charges d 0) r.reservation c) (sym read_row) ∙ sym on.change_is ∙ sym is in
-      record {
-        few = omega (arith, come_less p c' some, come.few);
-        places = places_on x;
-        going = subst (λ q. Settling (rows_in t0) whole q z (take t0.made (set t.charges d x))) parent
-            (subst (λ y. Settling (rows_in t0) whole (row (rows_in t0) d).parent y (take t0.made (set t.charges d x))) change
-            (subst (λ ks. Settling (rows_in t0) whole (row (rows_in t0) d).parent (passed (get_or (take t0.made t.charges) d 0) (row (rows_in t0) d).reservation c) ks) (put x e) next));
-      }
+    pub come_done : None ≡ onward_from at node → (arrival : Arrival) → whole ≡ spread (rows_in old) (path (rows_in old) arrival.dataset) arrival.change (charges_in old) →
+        Settled old (set now i (charged node x)) arrival
+    come_done none arrival end = let root = stops at node none in record {
+      places = places_on;
+      charges_are =
+          sym put
+          ∙ ap (λ j. set (charges_in now) j (changed (get_or (charges_in now) j 0) at.change)) root
+          ∙ settled (rows_in old) whole at.change (charges_in now) (subst (λ j. Settling (rows_in old) whole j at.change (charges_in now)) root come.going) ∙ end;
+    }
 
-  pub come_done : (x v : ℕ) (k : ℤ) → x ≡ changed (get_or t.charges d 0) c → None ≡ onward_from d (get_or t.rows d blank) (get_or t.charges d 0) c → whole ≡ spread (rows_in t0) (path (rows_in t0) v) k (charges_in t0) →
-      Settled t0 (record { made = t.made; rows = t.rows; charges = set t.charges d x; kinds = t.kinds }) v k
-  come_done x v k e none is = let root = stops d (get_or t.rows d blank) (get_or t.charges d 0) c none in record {
-    places = places_on x;
-    charges_are =
-        ap (λ n. take n (set t.charges d x)) come.places.same_made ∙ sym (put x e)
-        ∙ ap (λ j. set (take t0.made t.charges) j (changed (get_or (take t0.made t.charges) j 0) c)) root
-        ∙ settled (rows_in t0) whole c (take t0.made t.charges) (subst (λ j. Settling (rows_in t0) whole j c (take t0.made t.charges)) root come.going) ∙ is;
-  }
+  pub come_less : (next : Arrival) → Some next ≡ onward_from at node → next.dataset < at.dataset
+  come_less next some =
+      let on = goes_on at node next some in
+      let parent : (row (rows_in old) at.dataset).parent ≡ next.dataset = ap (λ (r : Row). r.parent) read_row ∙ sym on.parent_is in
+      omega (arith, rooted at.dataset on.below come.going.inside)

@@ -28,6 +28,11 @@ abbrev pub if_volume : {X : Type 0} → Kind → ℕ → Result X TreeFault → 
 if_volume Folder d answer = Err (NotVolume d)
 if_volume Volume d answer = answer
 
+-- the answer where the dataset is of the kind that is wanted
+abbrev pub if_kind : {X : Type 0} → Kind → Kind → ℕ → Result X TreeFault → Result X TreeFault
+if_kind Folder kind d answer = if_folder kind d answer
+if_kind Volume kind d answer = if_volume kind d answer
+
 -- at most 64 datasets
 abbrev pub if_room : {X : Type 0} → List Row → Result X TreeFault → Result X TreeFault
 if_room rows answer = cond (nat_lt (length rows) 64) answer (Err Full)

@@ -1,4 +1,4 @@
-pub mod Tables
+pub mod Nodes
 pub mod Fields
 pub mod Parts
 pub mod Faults

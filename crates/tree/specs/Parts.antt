@@ -6,7 +6,7 @@ use Rattle.charges.specs.Keep.{Keeps}
 use Rattle.rules.specs.declared.state.Kind.{Kind}
 use Rattle.rules.specs.declared.state.Kind.TheVariants.{Folder}
 use Rattle.tree.specs.declared.Tree.{Tree}
-use Rattle.tree.specs.Tables.{rows_in, charges_in, kinds_in}
+use Rattle.tree.specs.Nodes.{rows_in, charges_in, kinds_in}
 use Rattle.tree.specs.declared.fault.TreeFault.{TreeFault}
 
 -- the most units that the root may be charged
@@ -14,14 +14,14 @@ abbrev pub room_of : Tree → ℕ
 room_of t = t.room
 
 abbrev pub rows_of : Tree → List Row
-rows_of t = rows_in t.table
+rows_of t = rows_in t.nodes.items
 
 -- the charges that are kept; they are those computed from the rows
 abbrev pub charges_of : Tree → List ℕ
-charges_of t = charges_in t.table
+charges_of t = charges_in t.nodes.items
 
 abbrev pub kinds_of : Tree → List Kind
-kinds_of t = kinds_in t.table
+kinds_of t = kinds_in t.nodes.items
 
 -- What holds of every tree: the fields of a tree state it part by part.
 pub record Sound (t : Tree) : Type 0 where

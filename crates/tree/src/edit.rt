@@ -7,6 +7,8 @@ ghost use Rattle.tree.specs.Answers.{as_dataset, if_quota, if_reservation, quota
 
 use super::Tree;
 use super::fault::TreeFault;
+use super::node::settle;
+use super::step::Arrival;
 use charges::numbers::{reweighed, weight};
 
 // A quota that is not 0 is below neither the charge nor the reservation.
@@ -50,10 +52,10 @@ impl Tree {
         ensures after { After self.old self.new (with_quota (rows_of self.old) d units) (kinds_of self.old) result }
     {
         self.below_root(d)?;
-        let charge = self.kept(d);
-        check_quota(d, units, charge, self.row(d).reservation)?;
+        let node = self.node(d);
+        check_quota(d, units, node.charge, node.row.reservation)?;
         self.put_quota(d, units);
-        Ok(charge)
+        Ok(node.charge)
     }
 
     /// Sets the reservation of a dataset, if all above it stay within their limits; its new weight.
@@ -62,11 +64,11 @@ impl Tree {
         ensures after { After self.old self.new (with_reservation (rows_of self.old) d units) (kinds_of self.old) result }
     {
         self.below_root(d)?;
-        let charge = self.kept(d);
-        check_reservation(d, units, self.row(d).quota)?;
+        let node = self.node(d);
+        check_reservation(d, units, node.row.quota)?;
         self.judge_reservation(d, units)?;
         self.put_reservation(d, units);
-        Ok(weight(charge, units))
+        Ok(weight(node.charge, units))
     }
 
     /// More own units for a dataset, if all from it to the root stay within their limits.
@@ -86,7 +88,7 @@ impl Tree {
         ensures after { After self.old self.new (with_own (rows_of self.old) d ((row_in (rows_of self.old) d).own - units)) (kinds_of self.old) result }
     {
         self.dataset(d)?;
-        let own = self.row(d).own.saturating_sub(units);
+        let own = self.node(d).row.own.saturating_sub(units);
         self.put_own(d, own);
         Ok(())
     }
@@ -98,7 +100,7 @@ impl Tree {
         requires enough { units ≢ 0 → (charge_in (rows_of self.old) d ≤ units) × ((row_in (rows_of self.old) d).reservation ≤ units) }
         ensures { Becomes self.old self.new (with_quota (rows_of self.old) d units) (kinds_of self.old) }
     {
-        self.table.rows[d as usize].quota = units;
+        self.nodes.as_mut_slice()[usize::from(d)].row.quota = units;
     }
 
     // The parent's charge changes by the change of the weight.
@@ -109,10 +111,17 @@ impl Tree {
         requires granted { reservation_walk (room_of self.old) (rows_of self.old) d units ≡ None }
         ensures { Becomes self.old self.new (with_reservation (rows_of self.old) d units) (kinds_of self.old) }
     {
-        let row = self.row(d);
-        let change = reweighed(self.kept(d), row.reservation, units);
-        self.table.settle(row.parent, change);
-        self.table.rows[d as usize].reservation = units;
+        let node = self.node(d);
+        let change = reweighed(node.charge, node.row.reservation, units);
+        let nodes = self.nodes.as_mut_slice();
+        settle(
+            nodes,
+            Arrival {
+                dataset: node.row.parent,
+                change,
+            },
+        );
+        nodes[usize::from(d)].row.reservation = units;
     }
 
     // More own units, which the walk grants.
@@ -121,7 +130,7 @@ impl Tree {
         requires granted { walk_in (room_of self.old) (rows_of self.old) d (pos units) ≡ None }
         ensures { Becomes self.old self.new (raised (rows_of self.old) d units) (kinds_of self.old) }
     {
-        let own = self.row(d).own + units;
+        let own = self.node(d).row.own + units;
         self.put_own(d, own);
     }
 
@@ -131,8 +140,9 @@ impl Tree {
         requires within { WithinLimits (room_of self.old) (with_own (rows_of self.old) d own) }
         ensures { Becomes self.old self.new (with_own (rows_of self.old) d own) (kinds_of self.old) }
     {
-        let change = moved(self.row(d).own, own);
-        self.table.settle(d, change);
-        self.table.rows[d as usize].own = own;
+        let change = moved(self.node(d).row.own, own);
+        let nodes = self.nodes.as_mut_slice();
+        settle(nodes, Arrival { dataset: d, change });
+        nodes[usize::from(d)].row.own = own;
     }
 }

@@ -6,26 +6,16 @@ ghost use Rattle.tree.specs.Answers.{child, folder_answer, if_records, if_room, 
 
 use super::Tree;
 use super::fault::TreeFault;
-use super::table::Table;
+use super::node::Node;
+use arrayvec::ArrayVec;
 use charges::Row;
 use rules::state::Kind;
-
-// As many datasets as there can be.
-const MOST: u8 = 64;
-
-// A dataset in the root, or the root itself, without quota, reservation and units.
-const BLANK: Row = Row {
-    parent: 0,
-    quota: 0,
-    reservation: 0,
-    own: 0,
-};
 
 /// Refuses a number of records that is not 1 to 64.
 pub fn check_records(records: u8) -> Result<(), TreeFault>
     ensures { result ≡ if_records records (Ok tt) }
 {
-    if records == 0 || records > 64 {
+    if !(1..=64).contains(&records) {
         return Err(TreeFault::RecordCount { records });
     }
     Ok(())
@@ -36,13 +26,9 @@ impl Tree {
     pub fn make(room: u16) -> Tree
         ensures { Fresh room result }
     {
-        let table = Table {
-            made: 1,
-            rows: [BLANK; 64],
-            charges: [0; 64],
-            kinds: [Kind::Folder; 64],
-        };
-        Tree { room, table }
+        let mut nodes = ArrayVec::new();
+        nodes.push(Node::default());
+        Tree { room, nodes }
     }
 
     /// A new folder in `parent`; its number.
@@ -70,7 +56,7 @@ impl Tree {
     fn vacancy(&self) -> Result<(), TreeFault>
         ensures { result ≡ if_room (rows_of self.now) (Ok tt) }
     {
-        if self.table.made >= MOST {
+        if self.nodes.is_full() {
             return Err(TreeFault::Full);
         }
         Ok(())
@@ -82,16 +68,16 @@ impl Tree {
         ensures number { result ≡ length (rows_of self.old) }
         ensures became { Becomes self.old self.new (rows_of self.old ++ child parent ∷ []) (kinds_of self.old ++ kind ∷ []) }
     {
-        let d = self.table.made;
-        self.table.rows[d as usize] = Row {
+        let number = self.nodes.len() as u8;
+        let row = Row {
             parent,
-            quota: 0,
-            reservation: 0,
-            own: 0,
+            ..Row::default()
         };
-        self.table.charges[d as usize] = 0;
-        self.table.kinds[d as usize] = kind;
-        self.table.made = d + 1;
-        d
+        self.nodes.push(Node {
+            row,
+            charge: 0,
+            kind,
+        });
+        number
     }
 }

@@ -1,19 +1,21 @@
-// The datasets of a pool in a fixed table, with the charge of each kept beside its row.
+// The datasets of a pool in a list of fixed room, with the charge of each kept beside its row.
 #![tactic(auto)]
 
+ghost use Rattle.std.specs.Prelude.{length};
 ghost use Rattle.charges.specs.Tree.{Rooted, WithinLimits};
 ghost use Rattle.tree.specs.Fields.{FreeRoot, InQuotas, Kept, Sized};
-ghost use Rattle.tree.specs.Tables.{Lengths, charges_in, kinds_in, rows_in};
+ghost use Rattle.tree.specs.Nodes.{charges_in, kinds_in, rows_in};
 
+use arrayvec::ArrayVec;
 pub use grow::check_records;
-use table::Table;
+use node::Node;
 
 mod edit;
 pub mod fault;
 mod grow;
 mod lookup;
+mod node;
 mod step;
-mod table;
 #[cfg(test)]
 mod tests;
 
@@ -22,12 +24,11 @@ mod tests;
 pub struct Tree {
     // the most units that the root may be charged
     room: u16,
-    table: Table,
-    ghost sized: { Sized room table.made },
-    ghost lengths: { Lengths table },
-    ghost rooted: { Rooted (rows_in table) },
-    ghost kept: { Kept (rows_in table) (charges_in table) },
-    ghost within: { WithinLimits room (rows_in table) },
-    ghost reserved: { InQuotas (rows_in table) },
-    ghost root: { FreeRoot (rows_in table) (kinds_in table) },
+    nodes: ArrayVec<Node, 64>,
+    ghost sized: { Sized room (length nodes.items) },
+    ghost rooted: { Rooted (rows_in nodes.items) },
+    ghost kept: { Kept (rows_in nodes.items) (charges_in nodes.items) },
+    ghost within: { WithinLimits room (rows_in nodes.items) },
+    ghost reserved: { InQuotas (rows_in nodes.items) },
+    ghost root: { FreeRoot (rows_in nodes.items) (kinds_in nodes.items) },
 }

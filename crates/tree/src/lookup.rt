@@ -3,12 +3,12 @@ ghost use Rattle.std.specs.Prelude.{◌≡◌, ℕ, ◌^◌, ◌<◌, length, po
 ghost use Rattle.charges.specs.Tree.{charge as charge_in, row as row_in};
 ghost use Rattle.charges.specs.Walk.{walk as walk_in};
 ghost use Rattle.tree.specs.Parts.{Sound, kinds_of, room_of, rows_of};
-ghost use Rattle.tree.specs.Answers.{as_child, as_dataset, as_folder, as_volume, charge_answer, if_granted, kind_in, reservation_walk, walk_answer};
+ghost use Rattle.tree.specs.Answers.{as_child, as_dataset, as_folder, as_volume, charge_answer, if_exists, if_granted, if_kind, kind_in, reservation_walk, walk_answer};
 
 use super::Tree;
 use super::fault::TreeFault;
-use super::step::{onward, shortfall};
-use charges::Row;
+use super::node::Node;
+use super::step::Arrival;
 use charges::numbers::reweighed;
 use rules::state::Kind;
 
@@ -32,11 +32,7 @@ impl Tree {
     pub fn volume(&self, d: u8) -> Result<(), TreeFault>
         ensures { result ≡ as_volume (rows_of self.now) (kinds_of self.now) d }
     {
-        self.dataset(d)?;
-        match self.kind(d) {
-            Kind::Volume => Ok(()),
-            Kind::Folder => Err(TreeFault::NotVolume { dataset: d }),
-        }
+        self.of_kind(d, Kind::Volume)
     }
 
     /// The charge of a dataset: its own units and the weights of its children.
@@ -44,7 +40,7 @@ impl Tree {
         ensures { result ≡ charge_answer (rows_of self.now) d }
     {
         self.dataset(d)?;
-        Ok(self.kept(d))
+        Ok(self.node(d).charge)
     }
 
     /// The first dataset on the way from `d` to the root whose charge would pass its limit if the charge of `d` changed by `change`, and by how
@@ -63,20 +59,15 @@ impl Tree {
         requires { d < length (rows_of self.now) }
         ensures { result ≡ walk_in (room_of self.now) (rows_of self.now) d change }
     {
-        let mut at = d;
-        let mut arriving = change;
+        let mut arrival = Arrival { dataset: d, change };
         'up: loop {
-            let row = self.row(at);
-            let charge = self.kept(at);
-            let short = shortfall(self.room, at, row, charge, arriving);
+            let node = self.node(arrival.dataset);
+            let short = arrival.shortfall(self.room, node);
             if short > 0 {
-                return Some((at, short));
+                return Some((arrival.dataset, short));
             }
-            match onward(at, row, charge, arriving) {
-                Some((parent, passed)) => {
-                    at = parent;
-                    arriving = passed;
-                }
+            match arrival.onward(node) {
+                Some(next) => arrival = next,
                 None => return None,
             }
         }
@@ -96,9 +87,9 @@ impl Tree {
         requires below { 0 < d }
         ensures { result ≡ if_granted (reservation_walk (room_of self.now) (rows_of self.now) d units) (Ok tt) }
     {
-        let row = self.row(d);
-        let change = reweighed(self.kept(d), row.reservation, units);
-        self.judge(row.parent, change)
+        let node = self.node(d);
+        let change = reweighed(node.charge, node.row.reservation, units);
+        self.judge(node.row.parent, change)
     }
 
     // The walk from a dataset that exists, whose shortfall has two bytes.
@@ -119,17 +110,25 @@ impl Tree {
     pub(crate) fn has(&self, d: u8) -> bool
         ensures { result ≡ nat_lt d (length (rows_of self.now)) }
     {
-        d < self.table.made
+        usize::from(d) < self.nodes.len()
     }
 
     // There is such a dataset, and it is a folder.
     pub(crate) fn folder(&self, d: u8) -> Result<(), TreeFault>
         ensures { result ≡ as_folder (rows_of self.now) (kinds_of self.now) d }
     {
+        self.of_kind(d, Kind::Folder)
+    }
+
+    // There is such a dataset, and it is of the kind that is wanted.
+    fn of_kind(&self, d: u8, wanted: Kind) -> Result<(), TreeFault>
+        ensures { result ≡ if_exists (rows_of self.now) d (if_kind wanted (kind_in (kinds_of self.now) d) d (Ok tt)) }
+    {
         self.dataset(d)?;
-        match self.kind(d) {
-            Kind::Folder => Ok(()),
-            Kind::Volume => Err(TreeFault::NotFolder { dataset: d }),
+        match (wanted, self.node(d).kind) {
+            (Kind::Folder, Kind::Volume) => Err(TreeFault::NotFolder { dataset: d }),
+            (Kind::Volume, Kind::Folder) => Err(TreeFault::NotVolume { dataset: d }),
+            _ => Ok(()),
         }
     }
 
@@ -144,25 +143,13 @@ impl Tree {
         Ok(())
     }
 
-    pub(crate) fn row(&self, d: u8) -> Row
+    // What is kept of a dataset.
+    pub(crate) fn node(&self, d: u8) -> Node
         requires { d < length (rows_of self.now) }
-        ensures { result ≡ row_in (rows_of self.now) d }
+        ensures row { result.row ≡ row_in (rows_of self.now) d }
+        ensures charge { result.charge ≡ charge_in (rows_of self.now) d }
+        ensures kind { result.kind ≡ kind_in (kinds_of self.now) d }
     {
-        self.table.rows[d as usize]
-    }
-
-    pub(crate) fn kind(&self, d: u8) -> Kind
-        requires { d < length (rows_of self.now) }
-        ensures { result ≡ kind_in (kinds_of self.now) d }
-    {
-        self.table.kinds[d as usize]
-    }
-
-    // The charge that is kept.
-    pub(crate) fn kept(&self, d: u8) -> u16
-        requires { d < length (rows_of self.now) }
-        ensures { result ≡ charge_in (rows_of self.now) d }
-    {
-        self.table.charges[d as usize]
+        self.nodes[usize::from(d)]
     }
 }

@@ -9,5 +9,5 @@ pub put_own-requires : goal.put_own-requires
 put_own-requires c =
     let inside : c.args.d < length (rows_of c.args.self.now) = search rules in
     let less : c.saturating_sub-own.result ≤ (row (rows_of c.args.self.now) c.args.d).own =
-    omega (arith, c.saturating_sub-own.ensures, ap (λ (r : Row). r.own) c.row.ensures) in
+    omega (arith, c.saturating_sub-own.ensures, ap (λ (r : Row). r.own) c.node.ensures.row) in
     record { inside = inside; within = lower-within c.args.self.now c.args.d c.saturating_sub-own.result inside less }

@@ -10,13 +10,13 @@ overflow_add-own c =
     omega (
       arith,
       raise_sum c.args.self.now c.args.d c.args.units c.requires.inside c.requires.granted,
-      ap (λ (r : Row). r.own) c.row.ensures,
+      ap (λ (r : Row). r.own) c.node.ensures.row,
     )
 
 pub put_own-requires : goal.put_own-requires
 put_own-requires c = record {
   inside = c.requires.inside;
   within = subst (λ (n : ℕ). WithinLimits (room_of c.args.self.now) (with_own (rows_of c.args.self.now) c.args.d (n + c.args.units)))
-      (sym (ap (λ (r : Row). r.own) c.row.ensures))
+      (sym (ap (λ (r : Row). r.own) c.node.ensures.row))
       (raise_within c.args.self.now c.args.d c.args.units c.requires.inside c.requires.granted);
 }
