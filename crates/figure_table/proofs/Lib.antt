@@ -1,3 +1,3 @@
 -- Lemmas of this crate's proofs.
-mod Words
-mod Readings
+mod Numbers
+mod Texts

@@ -1,7 +1,8 @@
 -- What comes of a question, by the rules.
-use Rattle.std.specs.Prelude.{◌≡◌, ℕ, ◌<◌, ◌≤◌, ◌⊎◌}
+use Rattle.std.specs.Prelude.{◌≡◌, ℕ, ◌<◌, ◌≤◌, ◌⊎◌, Ok, Err, Result}
 use Rattle.costs.specs.Costs.{largest, CopiesFit, copies_cost, ParityFit, parity_cost}
-use Rattle.costs.specs.Faults.{cost_refusal}
+use Rattle.costs.specs.Faults.{cost_refusal, refusal_of}
+use Rattle.costs.specs.declared.fault.CostFault.{CostFault}
 use Rattle.figure_table.specs.declared.figure.Policy.{Policy}
 use Rattle.figure_table.specs.declared.figure.Policy.TheVariants.{Copies, Parity}
 use Rattle.figure_table.specs.declared.figure.Question.{Question}
@@ -16,6 +17,11 @@ Fit (Parity p w) = ParityFit p w
 abbrev pub cost_of : Policy → ℕ → ℕ
 cost_of (Copies n) size = copies_cost n size
 cost_of (Parity p w) size = parity_cost p w size
+
+-- a fault is the outcome that it is refused with
+abbrev pub outcome_of : Result Outcome CostFault → Outcome
+outcome_of (Ok o) = o
+outcome_of (Err fault) = Refused (refusal_of fault)
 
 -- of a policy that may be made, and whose costs these are
 abbrev pub Asked : (ℕ → ℕ) → ℕ → Question → Outcome → Type 0

@@ -1,5 +1,6 @@
 -- What is read of a text that some figure's text, or a part of it, is. Of other texts nothing is said: the line is compared afterwards.
-use Rattle.std.specs.Prelude.{◌≡◌, ℕ, ◌^◌, ◌<◌, ◌⊎◌, List, [], ◌∷◌, ◌++◌, length, Some, None, codes, decimal, Option, ◌≢◌, slice_index}
+use Rattle.std.specs.Prelude.{◌≡◌, ℕ, ◌^◌, ◌<◌, List, ◌∷◌, ◌++◌, Some, None, codes, decimal, Option, ◌≢◌, IsSomeAnd}
+use denote.Ref.{Bor}
 use Rattle.orders.specs.Layout.{layer_number}
 use Rattle.orders.specs.declared.answer.Layer.{Layer}
 use Rattle.orders.specs.declared.answer.Refusal.{Refusal}
@@ -10,38 +11,34 @@ use Rattle.figure_table.specs.declared.figure.Outcome.TheVariants.{Refused}
 use Rattle.figure_table.specs.declared.figure.Figure.{Figure}
 use Rattle.figure_table.specs.Texts.{policy_text, question_text, outcome_text, figure_text, SmallPolicy, SmallQuestion, SmallOutcome, Small}
 
--- no space in it
-abbrev pub Spaceless : List ℕ → Type 0
-Spaceless bs = (i : ℕ) → i < length bs → slice_index bs i ≢ 32
+-- a number that a space follows, and what is after the space
+abbrev pub ReadsByte : List ℕ → Option (ℕ × Bor (List ℕ)) → Type 0
+ReadsByte text o = (n : ℕ) (after : List ℕ) → n < 2 ^ 8 → text ≡ decimal n ++ (32 ∷ after) → IsSomeAnd o (λ r. (r.0 ≡ n) × (r.1.now ≡ after))
 
--- up to the first space, and after it; with no space, all and nothing
-abbrev pub FirstWord : List ℕ → List ℕ → List ℕ → Type 0
-FirstWord text word rest = Spaceless word × ((text ≡ word ++ (32 ∷ rest)) ⊎ ((text ≡ word) × (rest ≡ [])))
+abbrev pub ReadsNumber : List ℕ → Option ℕ → Type 0
+ReadsNumber text o = (n : ℕ) → n < 2 ^ 16 → text ≡ decimal n → o ≡ Some n
 
-abbrev pub ReadsByte : List ℕ → ℕ → List ℕ → Type 0
-ReadsByte text n rest = (m : ℕ) (after : List ℕ) → m < 2 ^ 8 → text ≡ decimal m ++ (32 ∷ after) → (n ≡ m) × (rest ≡ after)
+abbrev pub ReadsLayer : ℕ → Option Layer → Type 0
+ReadsLayer n o = (l : Layer) → n ≡ layer_number l → o ≡ Some l
 
-abbrev pub ReadsNumber : List ℕ → ℕ → Type 0
-ReadsNumber text n = (m : ℕ) → m < 2 ^ 16 → text ≡ decimal m → n ≡ m
-
-abbrev pub ReadsLayer : ℕ → Layer → Type 0
-ReadsLayer n layer = (l : Layer) → n ≡ layer_number l → layer ≡ l
-
-abbrev pub ReadsPolicy : List ℕ → Policy → List ℕ → Type 0
-ReadsPolicy text policy rest = (p : Policy) (after : List ℕ) → SmallPolicy p → text ≡ policy_text p ++ (32 ∷ after) → (policy ≡ p) × (rest ≡ after)
+-- a policy that a space follows, and what is after the space
+abbrev pub ReadsPolicy : List ℕ → Option (Policy × Bor (List ℕ)) → Type 0
+ReadsPolicy text o = (p : Policy) (after : List ℕ) → SmallPolicy p → text ≡ policy_text p ++ (32 ∷ after) → IsSomeAnd o (λ r. (r.0 ≡ p) × (r.1.now ≡ after))
 
 -- A question's and an outcome's text begin with the space that parts them from what is before.
-abbrev pub ReadsQuestion : List ℕ → Question → List ℕ → Type 0
-ReadsQuestion text question rest = (q : Question) (o : Outcome) → SmallQuestion q → 32 ∷ text ≡ question_text q ++ outcome_text o → (question ≡ q) × (32 ∷ rest ≡ outcome_text o)
+abbrev pub ReadsQuestion : List ℕ → Option (Question × Bor (List ℕ)) → Type 0
+ReadsQuestion text o =
+    (q : Question) (expected : Outcome) → SmallQuestion q → 32 ∷ text ≡ question_text q ++ outcome_text expected →
+    IsSomeAnd o (λ r. (r.0 ≡ q) × (32 ∷ r.1.now ≡ outcome_text expected))
 
-abbrev pub ReadsRefusal : List ℕ → Refusal → Type 0
-ReadsRefusal text refusal = (r : Refusal) → SmallOutcome (Refused r) → codes " refused " ++ text ≡ outcome_text (Refused r) → refusal ≡ r
+abbrev pub ReadsRefusal : List ℕ → Option Refusal → Type 0
+ReadsRefusal text o = (r : Refusal) → SmallOutcome (Refused r) → codes " refused " ++ text ≡ outcome_text (Refused r) → o ≡ Some r
 
-abbrev pub ReadsOutcome : List ℕ → Outcome → Type 0
-ReadsOutcome text outcome = (o : Outcome) → SmallOutcome o → 32 ∷ text ≡ outcome_text o → outcome ≡ o
+abbrev pub ReadsOutcome : List ℕ → Option Outcome → Type 0
+ReadsOutcome text o = (expected : Outcome) → SmallOutcome expected → 32 ∷ text ≡ outcome_text expected → o ≡ Some expected
 
-abbrev pub ReadsFigure : List ℕ → Figure → Type 0
-ReadsFigure line figure = (f : Figure) → Small f → line ≡ figure_text f → figure ≡ f
+abbrev pub ReadsFigure : List ℕ → Option Figure → Type 0
+ReadsFigure line o = (f : Figure) → Small f → line ≡ figure_text f → o ≡ Some f
 
 -- The figure that a line is the text of, or that there is none.
 abbrev pub Read : List ℕ → Option Figure → Type 0

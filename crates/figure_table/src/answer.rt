@@ -1,49 +1,39 @@
 // What the code gives for a question.
 ghost use Rattle.std.specs.Prelude.{◌≡◌};
 ghost use Rattle.costs.specs.Costs.{CopiesFit, ParityFit};
-ghost use Rattle.figure_table.specs.Outcomes.{Asked, Answered};
+ghost use Rattle.figure_table.specs.Outcomes.{Asked, Answered, outcome_of};
 
 use super::figure::{Outcome, Policy, Question};
 use costs::copies::Copies;
+use costs::fault::CostFault;
 use costs::parity::Parity;
 use costs::policy::CostPolicy;
 use orders::answer::Refusal;
 
 // Asks any policy.
-fn ask<P: CostPolicy>(policy: &P, question: Question) -> Outcome
-    ensures { Asked (P.CostPolicy.cost policy.now) (P.CostPolicy.worst policy.now) question result }
+fn ask<P: CostPolicy>(policy: &P, question: Question) -> Result<Outcome, CostFault>
+    ensures { Asked (P.CostPolicy.cost policy.now) (P.CostPolicy.worst policy.now) question (outcome_of result) }
 {
     match question {
-        Question::Make => Outcome::Accepted,
-        Question::Cost(size) => ask_cost(policy, size),
-        Question::Worst => Outcome::Units(policy.worst()),
+        Question::Make => Ok(Outcome::Accepted),
+        Question::Cost(size) => policy.cost(size).map(Outcome::Units),
+        Question::Worst => Ok(Outcome::Units(policy.worst())),
     }
 }
 
-fn ask_cost<P: CostPolicy>(policy: &P, size: u8) -> Outcome
-    ensures { Asked (P.CostPolicy.cost policy.now) (P.CostPolicy.worst policy.now) (Question.Cost size) result }
+// Checks the figures of a policy, makes it and asks it.
+fn make_and_ask(policy: Policy, question: Question) -> Result<Outcome, CostFault>
+    ensures { Answered policy question (outcome_of result) }
 {
-    match policy.cost(size) {
-        Ok(units) => Outcome::Units(units),
-        Err(fault) => Outcome::Refused(Refusal::from(fault)),
-    }
-}
-
-fn answer_copies(n: u8, question: Question) -> Outcome
-    ensures { Answered (Policy.Copies n) question result }
-{
-    match Copies::check(n) {
-        Ok(()) => ask(&Copies::make(n), question),
-        Err(fault) => Outcome::Refused(Refusal::from(fault)),
-    }
-}
-
-fn answer_parity(p: u8, w: u8, question: Question) -> Outcome
-    ensures { Answered (Policy.Parity p w) question result }
-{
-    match Parity::check(p, w) {
-        Ok(()) => ask(&Parity::make(p, w), question),
-        Err(fault) => Outcome::Refused(Refusal::from(fault)),
+    match policy {
+        Policy::Copies(n) => {
+            Copies::check(n)?;
+            ask(&Copies::make(n), question)
+        }
+        Policy::Parity(p, w) => {
+            Parity::check(p, w)?;
+            ask(&Parity::make(p, w), question)
+        }
     }
 }
 
@@ -51,8 +41,5 @@ fn answer_parity(p: u8, w: u8, question: Question) -> Outcome
 pub fn answer(policy: Policy, question: Question) -> Outcome
     ensures { Answered policy question result }
 {
-    match policy {
-        Policy::Copies(n) => answer_copies(n, question),
-        Policy::Parity(p, w) => answer_parity(p, w, question),
-    }
+    make_and_ask(policy, question).unwrap_or_else(|fault| Outcome::Refused(Refusal::from(fault)))
 }

@@ -2,7 +2,7 @@
 use orders::answer::Refusal;
 
 /// The policy that a figure is of, with any numbers.
-#[derive(Clone, Copy)]
+#[derive(Clone, Copy, PartialEq, Eq, Debug)]
 pub enum Policy {
     Copies(u8),
     /// Parity and width.
@@ -10,7 +10,7 @@ pub enum Policy {
 }
 
 /// What is asked of a policy.
-#[derive(Clone, Copy)]
+#[derive(Clone, Copy, PartialEq, Eq, Debug)]
 pub enum Question {
     /// May it be made?
     Make,
@@ -21,7 +21,7 @@ pub enum Question {
 }
 
 /// What comes of a question.
-#[derive(Clone, Copy, PartialEq)]
+#[derive(Clone, Copy, PartialEq, Eq, Debug)]
 pub enum Outcome {
     /// The policy may be made.
     Accepted,
@@ -30,7 +30,7 @@ pub enum Outcome {
 }
 
 /// One line of a table.
-#[derive(Clone, Copy)]
+#[derive(Clone, Copy, PartialEq, Eq, Debug)]
 pub struct Figure {
     pub policy: Policy,
     pub question: Question,

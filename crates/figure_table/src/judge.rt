@@ -9,7 +9,7 @@ use std::alloc::{AllocError, Global};
 use std::str;
 
 /// What a line of a table is found to be.
-#[derive(Clone, Copy)]
+#[derive(Clone, Copy, PartialEq, Eq, Debug)]
 pub enum Verdict {
     /// Blank, or begun by `#`.
     Comment,
@@ -24,7 +24,7 @@ pub enum Verdict {
 fn is_comment(line: &[u8]) -> bool
     ensures { Decides result (IsComment line.now) }
 {
-    line.is_empty() || line[0] == b'#'
+    matches!(line, [] | [b'#', ..])
 }
 
 // Runs the code on a figure.
@@ -49,8 +49,5 @@ pub fn judge_line(heap: Global, line: &[u8]) -> Result<Verdict, AllocError>
     let Ok(text) = str::from_utf8(line) else {
         return Ok(Verdict::Unreadable);
     };
-    match read_figure(heap, text)? {
-        Some(figure) => Ok(judge(figure)),
-        None => Ok(Verdict::Unreadable),
-    }
+    Ok(read_figure(heap, text)?.map_or(Verdict::Unreadable, judge))
 }

@@ -1,134 +1,117 @@
-// Reading a figure from a line: a guess that is right of every figure's text, and then a comparison of the text with the line.
-ghost use Rattle.std.specs.Prelude.{◌≡◌, IfOk};
-ghost use Rattle.figure_table.specs.Readings.{FirstWord, ReadsByte, ReadsNumber, ReadsLayer, ReadsPolicy, ReadsQuestion, ReadsRefusal, ReadsOutcome, ReadsFigure, Read};
+// Reading a figure from a line: of every figure's text its parts are found, and then its text is compared with the line.
+ghost use Rattle.std.specs.Prelude.{IfOk};
+ghost use Rattle.figure_table.specs.Readings.{ReadsByte, ReadsNumber, ReadsLayer, ReadsPolicy, ReadsQuestion, ReadsRefusal, ReadsOutcome, ReadsFigure, Read};
 
 use super::figure::{Figure, Outcome, Policy, Question};
-use super::text::figure_text;
 use orders::answer::{Layer, Refusal};
 use std::alloc::{AllocError, Global};
 
-// The bytes before the first space, and those after it; with no space, all and none.
-fn first_word(text: &str) -> (&str, &str)
-    ensures { FirstWord text.now result.0.now result.1.now }
+// The layer of a number.
+fn layer(number: u8) -> Option<Layer>
+    ensures { ReadsLayer number result }
 {
-    match text.split_once(' ') {
-        Some((word, rest)) => (word, rest),
-        None => (text, ""),
-    }
+    Layer::try_from(number).ok()
 }
 
-// A number that a space follows.
-fn byte(text: &str) -> (u8, &str)
-    ensures { ReadsByte text.now result.0 result.1.now }
+// A number that a space follows, and what is after it.
+fn byte(text: &str) -> Option<(u8, &str)>
+    ensures { ReadsByte text.now result }
 {
-    let (word, rest) = first_word(text);
-    (word.parse().unwrap_or(0), rest)
+    let (word, rest) = text.split_once(' ')?;
+    Some((word.parse().ok()?, rest))
 }
 
 // A number that is the whole text.
-fn number(text: &str) -> u16
+fn last_number(text: &str) -> Option<u16>
     ensures { ReadsNumber text.now result }
 {
-    text.parse().unwrap_or(0)
+    text.parse().ok()
 }
 
-// The layer of a number.
-fn layer(number: u8) -> Layer
-    ensures { ReadsLayer number result }
+// The policy that the first words name, and what is after the space that follows them.
+fn policy(text: &str) -> Option<(Policy, &str)>
+    ensures { ReadsPolicy text.now result }
 {
-    match number {
-        1 => Layer::Script,
-        2 => Layer::Transactions,
-        3 => Layer::Tree,
-        _ => Layer::Allocator,
-    }
-}
-
-// The policy that the first words name.
-fn policy(text: &str) -> (Policy, &str)
-    ensures { ReadsPolicy text.now result.0 result.1.now }
-{
-    let (kind, rest) = first_word(text);
+    let (kind, rest) = text.split_once(' ')?;
     match kind {
         "copies" => {
-            let (n, rest) = byte(rest);
-            (Policy::Copies(n), rest)
+            let (n, rest) = byte(rest)?;
+            Some((Policy::Copies(n), rest))
         }
-        _ => {
-            let (p, rest) = byte(rest);
-            let (w, rest) = byte(rest);
-            (Policy::Parity(p, w), rest)
+        "parity" => {
+            let (p, rest) = byte(rest)?;
+            let (w, rest) = byte(rest)?;
+            Some((Policy::Parity(p, w), rest))
         }
+        _ => None,
     }
 }
 
 // The question that the next words ask; with no such words it is whether the policy may be made.
-fn question(text: &str) -> (Question, &str)
-    ensures { ReadsQuestion text.now result.0 result.1.now }
+fn question(text: &str) -> Option<(Question, &str)>
+    ensures { ReadsQuestion text.now result }
 {
-    let (word, rest) = first_word(text);
-    match word {
-        "size" => {
-            let (size, rest) = byte(rest);
-            (Question::Cost(size), rest)
+    match text.split_once(' ') {
+        Some(("size", rest)) => {
+            let (size, rest) = byte(rest)?;
+            Some((Question::Cost(size), rest))
         }
-        "worst" => (Question::Worst, rest),
-        _ => (Question::Make, text),
+        Some(("worst", rest)) => Some((Question::Worst, rest)),
+        _ => Some((Question::Make, text)),
     }
 }
 
 // The refusal after the word `refused`.
-fn refusal(text: &str) -> Refusal
+fn refusal(text: &str) -> Option<Refusal>
     ensures { ReadsRefusal text.now result }
 {
-    let (number, rest) = byte(text);
-    let (_layer, rest) = first_word(rest);
-    let (layer_number, rest) = byte(rest);
-    let (_item, rest) = first_word(rest);
-    let (item, rest) = byte(rest);
-    let (_amount, rest) = first_word(rest);
-    Refusal {
+    let (number, rest) = byte(text)?;
+    let (layer_number, rest) = byte(rest.strip_prefix("layer ")?)?;
+    let (item, rest) = byte(rest.strip_prefix("item ")?)?;
+    let amount = last_number(rest.strip_prefix("amount ")?)?;
+    Some(Refusal {
         number,
-        layer: layer(layer_number),
+        layer: layer(layer_number)?,
         item,
-        amount: self::number(rest),
-    }
+        amount,
+    })
 }
 
 // The outcome that the last words expect.
-fn outcome(text: &str) -> Outcome
+fn outcome(text: &str) -> Option<Outcome>
     ensures { ReadsOutcome text.now result }
 {
-    let (kind, rest) = first_word(text);
+    if text == "accepted" {
+        return Some(Outcome::Accepted);
+    }
+    let (kind, rest) = text.split_once(' ')?;
     match kind {
-        "cost" => Outcome::Units(number(rest)),
-        "refused" => Outcome::Refused(refusal(rest)),
-        _ => Outcome::Accepted,
+        "cost" => Some(Outcome::Units(last_number(rest)?)),
+        "refused" => Some(Outcome::Refused(refusal(rest)?)),
+        _ => None,
     }
 }
 
-// The figure that the line has, if it has one.
-fn guess(line: &str) -> Figure
+// The figure whose parts the line has.
+fn figure(line: &str) -> Option<Figure>
     ensures { ReadsFigure line.now result }
 {
-    let (policy, rest) = policy(line);
-    let (question, rest) = question(rest);
-    Figure {
+    let (policy, rest) = policy(line)?;
+    let (question, rest) = question(rest)?;
+    Some(Figure {
         policy,
         question,
-        expected: outcome(rest),
-    }
+        expected: outcome(rest)?,
+    })
 }
 
 /// The figure whose text the line is, byte for byte.
 pub fn read_figure(heap: Global, line: &str) -> Result<Option<Figure>, AllocError>
     ensures { IfOk result (λ o. Read line.now o) }
 {
-    let figure = guess(line);
-    let text = figure_text(heap, &figure)?;
-    if text.as_str() == line {
-        Ok(Some(figure))
-    } else {
-        Ok(None)
-    }
+    let Some(figure) = figure(line) else {
+        return Ok(None);
+    };
+    let text = format!(in heap; "{figure}")?;
+    Ok((text.as_str() == line).then_some(figure))
 }

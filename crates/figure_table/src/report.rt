@@ -1,27 +1,37 @@
 // What is printed of a table.
-ghost use Rattle.std.specs.Prelude.{◌≡◌, ◌++◌, IfOk, string_bytes};
+ghost use Rattle.std.specs.Prelude.{◌≡◌, ◌++◌, Some, IfOk, string_bytes};
 ghost use Rattle.figure_table.specs.Reports.{verdict_text, summary_text};
 
 use super::judge::Verdict;
 use super::tally::Tally;
-use super::text::outcome_text;
 use std::alloc::{AllocError, Global};
+use std::fmt;
 
-// What is printed after a line.
-fn verdict_text(heap: Global, verdict: Verdict) -> Result<String, AllocError>
-    ensures { IfOk result (λ s. string_bytes s ≡ verdict_text verdict) }
-{
-    match verdict {
-        Verdict::Comment => Ok(String::new(heap)),
-        Verdict::Agrees(figure) => {
-            let got = outcome_text(heap, figure.expected)?;
-            format!(in heap; ": got{got}, agrees")
+/// What is printed after a line.
+impl fmt::Display for Verdict {
+    ghost output = { λ verdict. Some (verdict_text verdict) };
+
+    fn fmt<W: fmt::Write>(&self, f: &mut fmt::Formatter<W>) -> fmt::Result {
+        match self {
+            Verdict::Comment => Ok(()),
+            Verdict::Agrees(figure) => write!(f, ": got{}, agrees", figure.expected),
+            Verdict::Differs(_, got) => write!(f, ": got{got}, differs"),
+            Verdict::Unreadable => write!(f, ": unreadable"),
         }
-        Verdict::Differs(_, outcome) => {
-            let got = outcome_text(heap, outcome)?;
-            format!(in heap; ": got{got}, differs")
-        }
-        Verdict::Unreadable => String::from_str(heap, ": unreadable"),
+    }
+}
+
+/// The counts.
+impl fmt::Display for Tally {
+    ghost output = { λ tally. Some (summary_text tally) };
+
+    fn fmt<W: fmt::Write>(&self, f: &mut fmt::Formatter<W>) -> fmt::Result {
+        let Tally {
+            agree,
+            differ,
+            unreadable,
+        } = self;
+        write!(f, "{agree} agree, {differ} differ, {unreadable} unreadable")
     }
 }
 
@@ -29,17 +39,12 @@ fn verdict_text(heap: Global, verdict: Verdict) -> Result<String, AllocError>
 pub fn report(heap: Global, line: &str, verdict: Verdict) -> Result<String, AllocError>
     ensures { IfOk result (λ s. string_bytes s ≡ line.now ++ verdict_text verdict) }
 {
-    let mut text = String::from_str(heap, line)?;
-    text.push_str(verdict_text(heap, verdict)?.as_str())?;
-    Ok(text)
+    format!(in heap; "{line}{verdict}")
 }
 
 /// The last line: the counts.
 pub fn summary(heap: Global, tally: &Tally) -> Result<String, AllocError>
     ensures { IfOk result (λ s. string_bytes s ≡ summary_text tally.now) }
 {
-    let agree = tally.agree;
-    let differ = tally.differ;
-    let unreadable = tally.unreadable;
-    format!(in heap; "{agree} agree, {differ} differ, {unreadable} unreadable")
+    format!(in heap; "{tally}")
 }

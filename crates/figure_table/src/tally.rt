@@ -5,7 +5,7 @@ ghost use Rattle.figure_table.specs.Verdicts.{tallied};
 use super::judge::Verdict;
 
 /// The counts of a table's lines.
-#[derive(Clone, Copy)]
+#[derive(Clone, Copy, PartialEq, Eq, Debug, Default)]
 pub struct Tally {
     pub agree: u64,
     pub differ: u64,
@@ -17,11 +17,7 @@ impl Tally {
     pub fn new() -> Tally
         ensures { (result.agree ≡ 0) × (result.differ ≡ 0) × (result.unreadable ≡ 0) }
     {
-        Tally {
-            agree: 0,
-            differ: 0,
-            unreadable: 0,
-        }
+        Tally::default()
     }
 
     /// Counts one verdict; a comment is not counted.

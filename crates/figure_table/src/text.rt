@@ -1,60 +1,65 @@
 // Figures as text.
-ghost use Rattle.std.specs.Prelude.{◌≡◌, IfOk, string_bytes};
+ghost use Rattle.std.specs.Prelude.{Some};
 ghost use Rattle.figure_table.specs.Texts.{policy_text, question_text, outcome_text, figure_text};
 
 use super::figure::{Figure, Outcome, Policy, Question};
-use orders::answer::Refusal;
-use std::alloc::{AllocError, Global};
+use std::fmt;
 
-fn policy_text(heap: Global, policy: Policy) -> Result<String, AllocError>
-    ensures { IfOk result (λ s. string_bytes s ≡ policy_text policy) }
-{
-    match policy {
-        Policy::Copies(n) => format!(in heap; "copies {n}"),
-        Policy::Parity(p, w) => format!(in heap; "parity {p} {w}"),
+/// The policy as a line of a table begins with it.
+impl fmt::Display for Policy {
+    ghost output = { λ policy. Some (policy_text policy) };
+
+    fn fmt<W: fmt::Write>(&self, f: &mut fmt::Formatter<W>) -> fmt::Result {
+        match *self {
+            Policy::Copies(n) => write!(f, "copies {n}"),
+            Policy::Parity(p, w) => write!(f, "parity {p} {w}"),
+        }
     }
 }
 
-fn question_text(heap: Global, question: Question) -> Result<String, AllocError>
-    ensures { IfOk result (λ s. string_bytes s ≡ question_text question) }
-{
-    match question {
-        Question::Make => Ok(String::new(heap)),
-        Question::Cost(size) => format!(in heap; " size {size}"),
-        Question::Worst => format!(in heap; " worst"),
+/// The question as it follows the policy, with the space before it.
+impl fmt::Display for Question {
+    ghost output = { λ question. Some (question_text question) };
+
+    fn fmt<W: fmt::Write>(&self, f: &mut fmt::Formatter<W>) -> fmt::Result {
+        match *self {
+            Question::Make => Ok(()),
+            Question::Cost(size) => write!(f, " size {size}"),
+            Question::Worst => write!(f, " worst"),
+        }
     }
 }
 
-fn refusal_text(heap: Global, refusal: Refusal) -> Result<String, AllocError>
-    ensures { IfOk result (λ s. string_bytes s ≡ outcome_text (Outcome.Refused refusal)) }
-{
-    let Refusal {
-        number,
-        layer,
-        item,
-        amount,
-    } = refusal;
-    let layer = u8::from(layer);
-    format!(in heap; " refused {number} layer {layer} item {item} amount {amount}")
-}
+/// The outcome as a line of a table ends with it, with the space before it.
+impl fmt::Display for Outcome {
+    ghost output = { λ outcome. Some (outcome_text outcome) };
 
-/// The outcome as a line of a table ends with it.
-pub fn outcome_text(heap: Global, outcome: Outcome) -> Result<String, AllocError>
-    ensures { IfOk result (λ s. string_bytes s ≡ outcome_text outcome) }
-{
-    match outcome {
-        Outcome::Accepted => format!(in heap; " accepted"),
-        Outcome::Units(n) => format!(in heap; " cost {n}"),
-        Outcome::Refused(refusal) => refusal_text(heap, refusal),
+    fn fmt<W: fmt::Write>(&self, f: &mut fmt::Formatter<W>) -> fmt::Result {
+        match *self {
+            Outcome::Accepted => write!(f, " accepted"),
+            Outcome::Units(n) => write!(f, " cost {n}"),
+            Outcome::Refused(refusal) => write!(
+                f,
+                " refused {} layer {} item {} amount {}",
+                refusal.number,
+                u8::from(refusal.layer),
+                refusal.item,
+                refusal.amount
+            ),
+        }
     }
 }
 
 /// The line of a table that has this figure.
-pub fn figure_text(heap: Global, figure: &Figure) -> Result<String, AllocError>
-    ensures { IfOk result (λ s. string_bytes s ≡ figure_text figure.now) }
-{
-    let policy = policy_text(heap, figure.policy)?;
-    let question = question_text(heap, figure.question)?;
-    let outcome = outcome_text(heap, figure.expected)?;
-    format!(in heap; "{policy}{question}{outcome}")
+impl fmt::Display for Figure {
+    ghost output = { λ figure. Some (figure_text figure) };
+
+    fn fmt<W: fmt::Write>(&self, f: &mut fmt::Formatter<W>) -> fmt::Result {
+        let Figure {
+            policy,
+            question,
+            expected,
+        } = self;
+        write!(f, "{policy}{question}{expected}")
+    }
 }

@@ -1,6 +1,6 @@
 -- Bytes that are no text are no figure's.
 use Rattle.std.proofs.Common.{rules}
-use Rattle.figure_table.proofs.Readings.{utf8_figure}
+use Rattle.figure_table.proofs.Texts.{utf8_figure}
 use Rattle.figure_table.proofs.judge.judge_line.Goals as goal
 
 pub returns-in_default : goal.returns-in_default
