@@ -1,5 +1,5 @@
 -- Every figure's text is text.
-use Rattle.std.proofs.Common.{ℕ, ◌^◌, ◌<◌, [], codes, IsUtf8, decimal, refl, arith}
+use Rattle.std.proofs.Common.{ℕ, ◌^◌, ◌<◌, List, [], ◌++◌, codes, IsUtf8, decimal, refl, arith}
 use Rattle.std.proofs.lemmas.Fmt.{IsAscii-decimal}
 use Rattle.std.proofs.lemmas.Str.{IsUtf8-append, IsUtf8-from_ascii}
 use Rattle.orders.specs.Layout.{layer_number}
@@ -23,32 +23,34 @@ layer_small Allocator = omega arith
 utf8_decimal : (n : ℕ) → n < 2 ^ 64 → IsUtf8 (decimal n)
 utf8_decimal n h = IsUtf8-from_ascii (decimal n) (IsAscii-decimal n h)
 
+-- words, a number and what follows them
+utf8_number : (words : List ℕ) (n : ℕ) (after : List ℕ) → IsUtf8 words → n < 2 ^ 16 → IsUtf8 after → IsUtf8 (words ++ (decimal n ++ after))
+utf8_number words n after text small rest = IsUtf8-append words _ text (IsUtf8-append (decimal n) after (utf8_decimal n (omega arith)) rest)
+
+utf8_last : (words : List ℕ) (n : ℕ) → IsUtf8 words → n < 2 ^ 16 → IsUtf8 (words ++ decimal n)
+utf8_last words n text small = IsUtf8-append words (decimal n) text (utf8_decimal n (omega arith))
+
 utf8_policy : (p : Policy) → SmallPolicy p → IsUtf8 (policy_text p)
 unfolding lib.Utf8.encode
-utf8_policy (Copies n) small = IsUtf8-append (codes "copies ") (decimal n) (codes "copies ", (refl, refl)) (utf8_decimal n (omega arith))
+utf8_policy (Copies n) small = utf8_last (codes "copies ") n (codes "copies ", (refl, refl)) (omega arith)
 utf8_policy (Parity p w) small =
-    IsUtf8-append (codes "parity ") _ (codes "parity ", (refl, refl))
-    (IsUtf8-append (decimal p) _ (utf8_decimal p (omega arith))
-    (IsUtf8-append (codes " ") (decimal w) (codes " ", (refl, refl)) (utf8_decimal w (omega arith))))
+    utf8_number (codes "parity ") p _ (codes "parity ", (refl, refl)) (omega arith) (utf8_last (codes " ") w (codes " ", (refl, refl)) (omega arith))
 
 utf8_question : (q : Question) → SmallQuestion q → IsUtf8 (question_text q)
 unfolding lib.Utf8.encode
 utf8_question Make small = ([], (refl, refl))
-utf8_question (Cost n) small = IsUtf8-append (codes " size ") (decimal n) (codes " size ", (refl, refl)) (utf8_decimal n (omega arith))
+utf8_question (Cost n) small = utf8_last (codes " size ") n (codes " size ", (refl, refl)) (omega arith)
 utf8_question Worst small = (codes " worst", (refl, refl))
 
 utf8_outcome : (o : Outcome) → SmallOutcome o → IsUtf8 (outcome_text o)
 unfolding lib.Utf8.encode
 utf8_outcome Accepted small = (codes " accepted", (refl, refl))
-utf8_outcome (Units n) small = IsUtf8-append (codes " cost ") (decimal n) (codes " cost ", (refl, refl)) (utf8_decimal n (omega arith))
+utf8_outcome (Units n) small = utf8_last (codes " cost ") n (codes " cost ", (refl, refl)) small
 utf8_outcome (Refused r) small =
-    IsUtf8-append (codes " refused ") _ (codes " refused ", (refl, refl))
-    (IsUtf8-append (decimal r.number) _ (utf8_decimal r.number (omega arith))
-    (IsUtf8-append (codes " layer ") _ (codes " layer ", (refl, refl))
-    (IsUtf8-append (decimal (layer_number r.layer)) _ (utf8_decimal (layer_number r.layer) (omega (arith, layer_small r.layer)))
-    (IsUtf8-append (codes " item ") _ (codes " item ", (refl, refl))
-    (IsUtf8-append (decimal r.item) _ (utf8_decimal r.item (omega arith))
-    (IsUtf8-append (codes " amount ") (decimal r.amount) (codes " amount ", (refl, refl)) (utf8_decimal r.amount (omega arith))))))))
+    utf8_number (codes " refused ") r.number _ (codes " refused ", (refl, refl)) (omega arith)
+    (utf8_number (codes " layer ") (layer_number r.layer) _ (codes " layer ", (refl, refl)) (omega (arith, layer_small r.layer))
+    (utf8_number (codes " item ") r.item _ (codes " item ", (refl, refl)) (omega arith)
+    (utf8_last (codes " amount ") r.amount (codes " amount ", (refl, refl)) small.2)))
 
 pub utf8_figure : (f : Figure) → Small f → IsUtf8 (figure_text f)
 utf8_figure f small =

@@ -1,8 +1,6 @@
 -- What is read of a text that some figure's text, or a part of it, is. Of other texts nothing is said: the line is compared afterwards.
 use Rattle.std.specs.Prelude.{◌≡◌, ℕ, ◌^◌, ◌<◌, List, ◌∷◌, ◌++◌, Some, None, codes, decimal, Option, ◌≢◌, IsSomeAnd}
 use denote.Ref.{Bor}
-use Rattle.orders.specs.Layout.{layer_number}
-use Rattle.orders.specs.declared.answer.Layer.{Layer}
 use Rattle.orders.specs.declared.answer.Refusal.{Refusal}
 use Rattle.figure_table.specs.declared.figure.Policy.{Policy}
 use Rattle.figure_table.specs.declared.figure.Question.{Question}
@@ -17,9 +15,6 @@ ReadsByte text o = (n : ℕ) (after : List ℕ) → n < 2 ^ 8 → text ≡ decim
 
 abbrev pub ReadsNumber : List ℕ → Option ℕ → Type 0
 ReadsNumber text o = (n : ℕ) → n < 2 ^ 16 → text ≡ decimal n → o ≡ Some n
-
-abbrev pub ReadsLayer : ℕ → Option Layer → Type 0
-ReadsLayer n o = (l : Layer) → n ≡ layer_number l → o ≡ Some l
 
 -- a policy that a space follows, and what is after the space
 abbrev pub ReadsPolicy : List ℕ → Option (Policy × Bor (List ℕ)) → Type 0

@@ -1,17 +1,10 @@
 // Reading a figure from a line: of every figure's text its parts are found, and then its text is compared with the line.
 ghost use Rattle.std.specs.Prelude.{IfOk};
-ghost use Rattle.figure_table.specs.Readings.{ReadsByte, ReadsNumber, ReadsLayer, ReadsPolicy, ReadsQuestion, ReadsRefusal, ReadsOutcome, ReadsFigure, Read};
+ghost use Rattle.figure_table.specs.Readings.{ReadsByte, ReadsNumber, ReadsPolicy, ReadsQuestion, ReadsRefusal, ReadsOutcome, ReadsFigure, Read};
 
 use super::figure::{Figure, Outcome, Policy, Question};
 use orders::answer::{Layer, Refusal};
 use std::alloc::{AllocError, Global};
-
-// The layer of a number.
-fn layer(number: u8) -> Option<Layer>
-    ensures { ReadsLayer number result }
-{
-    Layer::try_from(number).ok()
-}
 
 // A number that a space follows, and what is after it.
 fn byte(text: &str) -> Option<(u8, &str)>
@@ -66,12 +59,12 @@ fn refusal(text: &str) -> Option<Refusal>
     ensures { ReadsRefusal text.now result }
 {
     let (number, rest) = byte(text)?;
-    let (layer_number, rest) = byte(rest.strip_prefix("layer ")?)?;
+    let (layer, rest) = byte(rest.strip_prefix("layer ")?)?;
     let (item, rest) = byte(rest.strip_prefix("item ")?)?;
     let amount = last_number(rest.strip_prefix("amount ")?)?;
     Some(Refusal {
         number,
-        layer: layer(layer_number)?,
+        layer: Layer::try_from(layer).ok()?,
         item,
         amount,
     })
