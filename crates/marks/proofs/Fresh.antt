@@ -1,5 +1,5 @@
 -- The marks of a pool that has every unit in.
-use Rattle.std.proofs.Common.{◌≡◌, ℕ, zero, suc, ◌+◌, ◌*◌, ◌<◌, ◌≤◌, Bool, false, List, [], ◌∷◌, length, get_or, take, replicate, sym, refl, ap, ◌∙◌, subst, arith}
+use Rattle.std.proofs.Common.{◌≡◌, ℕ, zero, suc, ◌+◌, ◌*◌, ◌<◌, ◌≤◌, Bool, false, List, [], ◌∷◌, map, length, get_or, take, replicate, sym, refl, ap, ◌∙◌, subst, arith}
 use Rattle.std.proofs.lemmas.List.{length-replicate, get_or-replicate}
 use Rattle.std.proofs.lemmas.Bool.{true≢false}
 use Rattle.pool.specs.Units.{outs}
@@ -7,12 +7,18 @@ use Rattle.rules.specs.Holders.{same, is_held, is_deferred}
 use Rattle.rules.specs.declared.state.Holder.{Holder}
 use Rattle.rules.specs.declared.state.Holder.TheVariants.{Nobody, Record}
 use Rattle.marks.specs.Linked.{Named, Chained, Linked}
+use Rattle.marks.specs.declared.unit.Unit.{Unit}
 use Rattle.marks.specs.Held.{Held}
+use Rattle.marks.specs.Units.{holders_in, nexts_in}
 
 take-replicate : {X : Type 0} (n m : ℕ) (x : X) → n ≤ m → take n (replicate m x) ≡ replicate n x
 take-replicate zero m x l = refl
 take-replicate (suc n) zero x l = absurd (omega arith)
 take-replicate {X} (suc n) (suc m) x l = ap (λ (xs : List X). x ∷ xs) (take-replicate n m x (omega arith))
+
+map-replicate : {X Y : Type 0} (f : X → Y) (n : ℕ) (x : X) → map f (replicate n x) ≡ replicate n (f x)
+map-replicate f zero x = refl
+map-replicate {Y = Y} f (suc n) x = ap (λ (ys : List Y). f x ∷ ys) (map-replicate f n x)
 
 all_same : {X : Type 0} (n u : ℕ) (x : X) → get_or (replicate n x) u x ≡ x
 all_same zero u x = refl
@@ -50,13 +56,18 @@ fresh-linked n hs next first d long wide heads none firsts e =
     }
 
 -- the rows and the lists of a table that is made for n units
-pub fresh-rows : (n : ℕ) → n ≤ 4096 → take n (replicate 4096 Nobody) ≡ replicate n Nobody
-fresh-rows n l = take-replicate n 4096 Nobody l
+module _ (n : ℕ) (few : n ≤ 4096) where
+  abbrev pub made : List Unit
+  made = replicate 4096 (record { holder = Nobody; next = n })
 
-pub fresh : (n : ℕ) → n ≤ 4096 → Linked n (take n (replicate 4096 Nobody)) (replicate 4096 n) (replicate 4096 n) n
-fresh n l =
-    rw (fresh-rows n l) (fresh-linked n (replicate n Nobody) (replicate 4096 n) (replicate 4096 n) n (length-replicate n Nobody) (length-replicate 4096 n) (length-replicate 4096 n)
-    (λ u. all_same n u Nobody) (λ k b. get_or-replicate 4096 k n 0 b) refl)
+  pub fresh-rows : take n (holders_in made) ≡ replicate n Nobody
+  fresh-rows = ap (take n) (map-replicate (λ (x : Unit). x.holder) 4096 (record { holder = Nobody; next = n })) ∙ take-replicate n 4096 Nobody few
+
+  pub fresh : Linked n (take n (holders_in made)) (nexts_in made) (replicate 4096 n) n
+  fresh =
+      rw (fresh-rows, map-replicate (λ (x : Unit). x.next) 4096 (record { holder = Nobody; next = n }))
+      (fresh-linked n (replicate n Nobody) (replicate 4096 n) (replicate 4096 n) n (length-replicate n Nobody) (length-replicate 4096 n) (length-replicate 4096 n)
+      (λ u. all_same n u Nobody) (λ k b. get_or-replicate 4096 k n 0 b) refl)
 
 -- no unit is out, and none has a holder
 pub fresh_held : (us : List Bool) (hs : List Holder) (n : ℕ) → us ≡ replicate n false → hs ≡ replicate n Nobody → Held us hs

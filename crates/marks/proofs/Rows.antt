@@ -9,7 +9,7 @@ take_set_at (suc n) [] u y = refl
 take_set_at (suc n) (x ∷ xs) zero y = refl
 take_set_at {X} (suc n) (x ∷ xs) (suc u) y = ap (λ (l : List X). x ∷ l) (take_set_at n xs u y)
 
-pub map_at : {X : Type 0} (f : X → X) (xs : List X) (u : ℕ) (d : X) → get_or (map f xs) u (f d) ≡ f (get_or xs u d)
+pub map_at : {X Y : Type 0} (f : X → Y) (xs : List X) (u : ℕ) (d : X) → get_or (map f xs) u (f d) ≡ f (get_or xs u d)
 map_at f [] u d = refl
 map_at f (x ∷ xs) zero d = refl
 map_at f (x ∷ xs) (suc u) d = map_at f xs u d

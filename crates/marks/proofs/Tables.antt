@@ -1,71 +1,93 @@
 -- What the calls of a table do to its rows, and that they keep it well made.
 use Rattle.std.proofs.Common.{◌≡◌, ℕ, ◌+◌, ◌*◌, ◌<◌, ◌≤◌, Bool, true, false, Some, None, List, map, length, get_or, take, set, count_by, sym, refl, ap, ◌∙◌, subst, inl, inr, arith}
-use Rattle.std.proofs.lemmas.List.{get_or-take, get_or_past}
+use Rattle.std.proofs.lemmas.List.{get_or-take, get_or_past, length-map, map-set, set-get_or}
 use Rattle.std.proofs.lemmas.List.Sums.{count_by-le-length}
 use Rattle.std.proofs.lemmas.Bool.{cases_Bool, cond-true, cond-false}
 use Rattle.rules.specs.Holders.{same, count, is_deferred, defer}
 use Rattle.rules.specs.declared.state.Holder.{Holder}
 use Rattle.rules.specs.declared.state.Holder.TheVariants.{Nobody, Record, Deferred}
 use Rattle.marks.specs.declared.table.Table.{Table}
+use Rattle.marks.specs.declared.unit.Unit.{Unit}
 use Rattle.marks.specs.Linked.{Named, Linked}
 use Rattle.marks.specs.Tabled.{Tabled, rows_of, Shifted}
+use Rattle.marks.specs.Units.{holders_in, nexts_in}
 use Rattle.marks.proofs.Chains.{head_own, none-own}
 use Rattle.marks.proofs.Moves.{same_self, same_true, to_record, record_head, to_deferred, to_nobody}
-use Rattle.marks.proofs.Rows.{take_set_at, moved-one, moved_none}
+use Rattle.marks.proofs.Rows.{map_at, take_set_at, moved-one, moved_none}
 
 -- every table is well made
 pub tabled : (t : Table) → Tabled t
-tabled t = record { small = t.small; whole = t.whole; linked = t.linked }
+tabled t = record { small = t.small; whole = sym (length-map t.units (λ x. x.next)) ∙ t.linked.wide; linked = t.linked }
 
-pub row_at : (t : Table) (u : ℕ) → u < t.size → get_or t.holders u Nobody ≡ get_or (rows_of t) u Nobody
-row_at t u l = sym (get_or-take t.size t.holders u Nobody l)
+pub row_at : (t : Table) (u : ℕ) (d : Unit) → d.holder ≡ Nobody → u < t.size → (get_or t.units u d).holder ≡ get_or (rows_of t) u Nobody
+row_at t u d e l =
+    sym (map_at (λ (x : Unit). x.holder) t.units u d) ∙ ap (get_or (holders_in t.units) u) e ∙ sym (get_or-take t.size (holders_in t.units) u Nobody l)
 
 pub row-past : (t : Table) (u : ℕ) → t.size ≤ u → Nobody ≡ get_or (rows_of t) u Nobody
 row-past t u l = sym (get_or_past (rows_of t) u Nobody (omega (arith, t.linked.long)))
 
 -- the entry `a` of a unit, and the entry `i` of a record's head
 module _ (t : Table) (a : ℕ) where
-  pub rows-set : (u : ℕ) (y : Holder) → a ≡ u → take t.size (set t.holders a y) ≡ set (rows_of t) u y
-  rows-set u y e = ap (λ (k : ℕ). take t.size (set t.holders k y)) e ∙ take_set_at t.size t.holders u y
+  pub rows-set : (u : ℕ) (x : Unit) → a ≡ u → take t.size (holders_in (set t.units a x)) ≡ set (rows_of t) u x.holder
+  rows-set u x e =
+      ap (λ (k : ℕ). take t.size (holders_in (set t.units k x))) e ∙ ap (take t.size) (map-set (λ (y : Unit). y.holder) t.units u x)
+      ∙ take_set_at t.size (holders_in t.units) u x.holder
+
+  nexts-set : (u : ℕ) (x : Unit) → a ≡ u → nexts_in (set t.units a x) ≡ set (nexts_in t.units) u x.next
+  nexts-set u x e = ap (λ (k : ℕ). nexts_in (set t.units k x)) e ∙ map-set (λ (y : Unit). y.next) t.units u x
 
   -- a unit goes to a record
   pub marked : (u v r i : ℕ) → a ≡ u → i ≡ v * 64 + r → (u < t.size) × (get_or (rows_of t) u Nobody ≡ Nobody) → (v < 64) × (r < 64) →
-      Linked t.size (take t.size (set t.holders a (Record v r))) (set t.next a (get_or t.first i 0)) (set t.first i u) t.deferred
+      let x : Unit = record { holder = Record v r; next = get_or t.first i 0 } in
+      Linked t.size (take t.size (holders_in (set t.units a x))) (nexts_in (set t.units a x)) (set t.first i u) t.deferred
   marked u v r i e f free named =
-      rw (rows-set u (Record v r) e, e, f) (to_record t.size (rows_of t) t.next t.first t.deferred t.linked t.small u v r free.0 free.1 named.0 named.1)
+      let x : Unit = record { holder = Record v r; next = get_or t.first i 0 } in
+      rw (rows-set u x e, nexts-set u x e, f) (to_record t.size (rows_of t) (nexts_in t.units) t.first t.deferred t.linked t.small u v r free.0 free.1 named.0 named.1)
+
+  -- the next of a unit, in the column
+  next_at : (d : Unit) → d.next ≡ 0 → get_or (nexts_in t.units) a 0 ≡ (get_or t.units a d).next
+  next_at d e = ap (get_or (nexts_in t.units) a) (sym e) ∙ map_at (λ (x : Unit). x.next) t.units a d
 
   -- the unit at the head of the deferred goes to nobody
-  pub released : a ≡ t.deferred → (t.deferred ≡ t.size → ⊥) → Linked t.size (take t.size (set t.holders a Nobody)) t.next t.first (get_or t.next a 0)
-  released e ne = rw (rows-set t.deferred Nobody e, e) (to_nobody t.size (rows_of t) t.next t.first t.deferred t.linked t.small ne)
+  pub released : (d : Unit) → d.next ≡ 0 → a ≡ t.deferred → (t.deferred ≡ t.size → ⊥) →
+      let x : Unit = record { holder = Nobody; next = (get_or t.units a d).next } in
+      Linked t.size (take t.size (holders_in (set t.units a x))) (nexts_in (set t.units a x)) t.first (get_or t.units a d).next
+  released d z e ne =
+      let x : Unit = record { holder = Nobody; next = (get_or t.units a d).next } in
+      let same-nexts : nexts_in (set t.units a x) ≡ nexts_in t.units =
+      nexts-set a x refl ∙ ap (set (nexts_in t.units) a) (sym (next_at d z)) ∙ set-get_or (nexts_in t.units) a 0 in
+      rw (rows-set t.deferred x e, same-nexts, sym (next_at d z), e) (to_nobody t.size (rows_of t) (nexts_in t.units) t.first t.deferred t.linked t.small ne)
 
   -- the unit at the head of a record is deferred
-  pub shifted : (u v r i : ℕ) → a ≡ u → i ≡ v * 64 + r → u ≡ get_or t.first i 0 → (v < 64) × (r < 64) → (u ≡ t.size → ⊥) →
-      Linked t.size (take t.size (set t.holders a (Deferred v))) (set t.next a t.deferred) (set t.first i (get_or t.next a 0)) u
-  shifted u v r i e f h named ne =
+  pub shifted : (u v r i : ℕ) (d : Unit) → d.next ≡ 0 → a ≡ u → i ≡ v * 64 + r → u ≡ get_or t.first i 0 → (v < 64) × (r < 64) → (u ≡ t.size → ⊥) →
+      let x : Unit = record { holder = Deferred v; next = t.deferred } in
+      Linked t.size (take t.size (holders_in (set t.units a x))) (nexts_in (set t.units a x)) (set t.first i (get_or t.units a d).next) u
+  shifted u v r i d z e f h named ne =
+      let x : Unit = record { holder = Deferred v; next = t.deferred } in
       let q : u ≡ get_or t.first (v * 64 + r) 0 = h ∙ ap (λ (k : ℕ). get_or t.first k 0) f in
-      rw (rows-set u (Deferred v) e, e, f, q) (to_deferred t.size (rows_of t) t.next t.first t.deferred t.linked t.small v r named.0 named.1 (λ z. ne (q ∙ z)))
+      rw (rows-set u x e, nexts-set u x e, sym (next_at d z), e, f, q) (to_deferred t.size (rows_of t) (nexts_in t.units) t.first t.deferred t.linked t.small v r named.0 named.1 (λ y. ne (q ∙ y)))
 
 pub head_deferred : (t : Table) → (t.deferred ≡ t.size → ⊥) → (t.deferred < t.size) × (is_deferred (get_or (rows_of t) t.deferred Nobody) ≡ true)
-head_deferred t ne = head_own t.size (rows_of t) t.next is_deferred t.deferred t.linked.deferred ne
+head_deferred t ne = head_own t.size (rows_of t) (nexts_in t.units) is_deferred t.deferred t.linked.deferred ne
 
 pub deferred_fits : (t : Table) (a : ℕ) → a ≡ t.deferred → (t.deferred ≡ t.size → ⊥) → a < 4096
 deferred_fits t a e ne = let h = head_deferred t ne in omega (arith, h.0, t.small)
 
 pub none_deferred : (t : Table) → t.deferred ≡ t.size → (u : ℕ) → is_deferred (get_or (rows_of t) u Nobody) ≡ false
-none_deferred t e = none-own t.size (rows_of t) t.next is_deferred t.deferred t.linked.deferred e
+none_deferred t e = none-own t.size (rows_of t) (nexts_in t.units) is_deferred t.deferred t.linked.deferred e
 
 module _ (t : Table) (u v r i : ℕ) (h : u ≡ get_or t.first i 0) (f : i ≡ v * 64 + r) (named : (v < 64) × (r < 64)) where
   head : u ≡ get_or t.first (v * 64 + r) 0
   head = h ∙ ap (λ (k : ℕ). get_or t.first k 0) f
 
   pub head_of : (u ≡ t.size → ⊥) → (u < t.size) × (get_or (rows_of t) u Nobody ≡ Record v r)
-  head_of ne = rw head (record_head t.size (rows_of t) t.next t.first t.deferred t.linked t.small v r named.0 named.1 (λ z. ne (head ∙ z)))
+  head_of ne = rw head (record_head t.size (rows_of t) (nexts_in t.units) t.first t.deferred t.linked t.small v r named.0 named.1 (λ z. ne (head ∙ z)))
 
   pub head_fits : (a : ℕ) → a ≡ u → (u ≡ t.size → ⊥) → a < 4096
   head_fits a e ne = let o = head_of ne in omega (arith, o.0, t.small)
 
   pub none-of : u ≡ t.size → (k : ℕ) → same (Record v r) (get_or (rows_of t) k Nobody) ≡ false
-  none-of e = none-own t.size (rows_of t) t.next (same (Record v r)) _ (t.linked.records v r named.0 named.1) (sym head ∙ e)
+  none-of e = none-own t.size (rows_of t) (nexts_in t.units) (same (Record v r)) _ (t.linked.records v r named.0 named.1) (sym head ∙ e)
 
 -- a record's units are deferred one by one
 pub record Deferring (v r k : ℕ) (t₀ t : Table) : Type 0 where

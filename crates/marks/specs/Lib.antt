@@ -4,3 +4,4 @@ pub mod Linked
 pub mod Once
 pub mod Sound
 pub mod Tabled
+pub mod Units

@@ -5,16 +5,17 @@ use Rattle.rules.specs.declared.state.Holder.{Holder}
 use Rattle.rules.specs.declared.state.Holder.TheVariants.{Nobody, Record, Deferred}
 use Rattle.marks.specs.declared.table.Table.{Table}
 use Rattle.marks.specs.Linked.{Linked}
+use Rattle.marks.specs.Units.{holders_in, nexts_in}
 
 -- the holder of each unit
 abbrev pub rows_of : Table → List Holder
-rows_of t = take t.size t.holders
+rows_of t = take t.size (holders_in t.units)
 
 -- a table that is well made
 pub record Tabled (t : Table) : Type 0 where
   pub small : t.size ≤ 4096
-  pub whole : length t.holders ≡ 4096
-  pub linked : Linked t.size (rows_of t) t.next t.first t.deferred
+  pub whole : length t.units ≡ 4096
+  pub linked : Linked t.size (rows_of t) (nexts_in t.units) t.first t.deferred
 
 -- a unit of record r of volume v is deferred; or the record has none, and nothing changes
 abbrev pub Shifted : ℕ → ℕ → Table → Table → Option ℕ → Type 0

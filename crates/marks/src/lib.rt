@@ -5,3 +5,4 @@ pub mod fault;
 pub mod marks;
 mod place;
 mod table;
+mod unit;

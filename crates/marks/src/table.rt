@@ -1,30 +1,30 @@
 // The table of holders, with the units of one holder linked one to the next.
-ghost use Rattle.std.specs.Prelude.{◌≡◌, ◌<◌, ◌≤◌, map, length, replicate, take, slice_index_or, slice_set};
+ghost use Rattle.std.specs.Prelude.{◌≡◌, ◌<◌, ◌≤◌, map, replicate, take, slice_index_or, slice_set};
 ghost use Rattle.rules.specs.Holders.{count, defer as defer_of};
 ghost use Rattle.rules.specs.declared.state.Holder.TheVariants.{Nobody, Record};
 ghost use Rattle.marks.specs.Linked.{Linked};
 ghost use Rattle.marks.specs.Once.{linked_once};
+ghost use Rattle.marks.specs.Units.{holders_in, nexts_in};
 
 use super::place::Place;
+use super::unit::Unit;
 use rules::state::Holder;
 
 /// As many entries as a pool can have units, and as there are records: 64 of 64 volumes.
 const ENTRIES: usize = 4096;
 
-/// The holder of each unit below the size. From a record's head, and from the head of the deferred units, the
-/// entries of `next` go through the units of that holder; the size ends a list.
+/// Units below the size. From a record's head, and from the head of the deferred units, each unit's `next` goes on
+/// through the units of that holder; the size ends a list.
 #[derive(Drop)]
 pub struct Table {
     size: u16,
-    holders: [Holder; ENTRIES],
-    next: [u16; ENTRIES],
-    // the head of each record's units, at 64 times the volume and the record's number
+    units: [Unit; ENTRIES],
+    // the head of each record's units, at its place's index
     first: [u16; ENTRIES],
     // the head of the deferred units
     deferred: u16,
     ghost small: { size ≤ 4096 },
-    ghost whole: { length holders ≡ 4096 },
-    ghost linked: { Linked size (take size holders) next first deferred } by { linked_once size (take size holders) next first deferred },
+    ghost linked: { Linked size (take size (holders_in units)) (nexts_in units) first deferred } by { linked_once size (take size (holders_in units)) (nexts_in units) first deferred },
 }
 
 impl Table {
@@ -38,8 +38,10 @@ impl Table {
     {
         Table {
             size,
-            holders: [Holder::Nobody; ENTRIES],
-            next: [size; ENTRIES],
+            units: [Unit {
+                holder: Holder::Nobody,
+                next: size,
+            }; ENTRIES],
             first: [size; ENTRIES],
             deferred: size,
         }
@@ -57,7 +59,7 @@ impl Table {
         ensures { result ≡ slice_index_or (rows_of self.now) unit Nobody }
     {
         if unit < self.size {
-            self.holders[usize::from(unit)]
+            self.units[usize::from(unit)].holder
         } else {
             Holder::Nobody
         }
@@ -70,11 +72,12 @@ impl Table {
         ensures sized { self.new.size ≡ self.old.size }
     {
         let i = place.index();
-        let at = usize::from(unit);
-        self.next[at] = self.first[i];
-        self.first[i] = unit;
         let Place { volume, number, .. } = place;
-        self.holders[at] = Holder::Record { volume, number };
+        self.units[usize::from(unit)] = Unit {
+            holder: Holder::Record { volume, number },
+            next: self.first[i],
+        };
+        self.first[i] = unit;
     }
 
     // takes the unit at the head of a record's list to the head of the deferred
@@ -88,11 +91,14 @@ impl Table {
             return None;
         }
         let at = usize::from(unit);
-        self.first[i] = self.next[at];
-        self.next[at] = self.deferred;
+        self.first[i] = self.units[at].next;
+        self.units[at] = Unit {
+            holder: Holder::Deferred {
+                volume: place.volume,
+            },
+            next: self.deferred,
+        };
         self.deferred = unit;
-        let Place { volume, .. } = place;
-        self.holders[at] = Holder::Deferred { volume };
         Some(unit)
     }
 
@@ -122,8 +128,8 @@ impl Table {
             return None;
         }
         let at = usize::from(unit);
-        self.deferred = self.next[at];
-        self.holders[at] = Holder::Nobody;
+        self.deferred = self.units[at].next;
+        self.units[at].holder = Holder::Nobody;
         Some(unit)
     }
 }

@@ -1,6 +1,4 @@
-use Rattle.std.proofs.Common.{refl, ◌∙◌}
-use Rattle.std.proofs.lemmas.List.{length-set}
-use Rattle.rules.specs.declared.state.Holder.TheVariants.{Nobody}
+use Rattle.std.proofs.Common.{refl}
 use Rattle.marks.proofs.Tables.{head_deferred, deferred_fits, none_deferred, rows-set, released}
 use Rattle.marks.proofs.table.Table.release.Goals as goal
 
@@ -13,13 +11,10 @@ bounds-self-at c = deferred_fits c.args.self.now c.from-at.result c.from-at.ensu
 pub bounds-self-at-2 : goal.bounds-self-at-2
 bounds-self-at-2 c = deferred_fits c.args.self.now c.from-at.result c.from-at.ensures c.if-unit-self.false
 
-pub invariant_of-self-clause-whole : goal.invariant_of-self-clause-whole
-invariant_of-self-clause-whole c = length-set c.args.self.now.holders _ _ ∙ c.args.self.now.whole
-
 pub invariant_of-self-clause-linked : goal.invariant_of-self-clause-linked
-invariant_of-self-clause-linked c = released c.args.self.now c.from-at.result c.from-at.ensures c.if-unit-self.false
+invariant_of-self-clause-linked c = released c.args.self.now c.from-at.result _ refl c.from-at.ensures c.if-unit-self.false
 
 pub returns-clause-released : goal.returns-clause-released
 returns-clause-released c =
     let h = head_deferred c.args.self.now c.if-unit-self.false in
-    (h.0, h.1, rows-set c.args.self.now c.from-at.result _ Nobody c.from-at.ensures)
+    (h.0, h.1, rows-set c.args.self.now c.from-at.result _ _ c.from-at.ensures)

@@ -1,6 +1,4 @@
-use Rattle.std.proofs.Common.{refl, ◌∙◌}
-use Rattle.std.proofs.lemmas.List.{length-set}
-use Rattle.rules.specs.declared.state.Holder.TheVariants.{Deferred}
+use Rattle.std.proofs.Common.{refl}
 use Rattle.marks.proofs.Tables.{head_of, head_fits, none-of, rows-set, shifted}
 use Rattle.marks.proofs.table.Table.shift.Goals as goal
 
@@ -13,17 +11,11 @@ bounds-self-at c = head_fits c.args.self.now _ c.args.place.volume c.args.place.
 pub bounds-self-at-2 : goal.bounds-self-at-2
 bounds-self-at-2 c = head_fits c.args.self.now _ c.args.place.volume c.args.place.number c.index-i.result refl c.index-i.ensures c.args.place.named c.from-at.result c.from-at.ensures c.if-unit-self.false
 
-pub bounds-self-at-3 : goal.bounds-self-at-3
-bounds-self-at-3 c = head_fits c.args.self.now _ c.args.place.volume c.args.place.number c.index-i.result refl c.index-i.ensures c.args.place.named c.from-at.result c.from-at.ensures c.if-unit-self.false
-
-pub invariant_of-self-clause-whole : goal.invariant_of-self-clause-whole
-invariant_of-self-clause-whole c = length-set c.args.self.now.holders _ _ ∙ c.args.self.now.whole
-
 pub invariant_of-self-clause-linked : goal.invariant_of-self-clause-linked
 invariant_of-self-clause-linked c =
-    shifted c.args.self.now c.from-at.result _ c.args.place.volume c.args.place.number c.index-i.result c.from-at.ensures c.index-i.ensures refl c.args.place.named c.if-unit-self.false
+    shifted c.args.self.now c.from-at.result _ c.args.place.volume c.args.place.number c.index-i.result _ refl c.from-at.ensures c.index-i.ensures refl c.args.place.named c.if-unit-self.false
 
 pub returns-clause-shifted : goal.returns-clause-shifted
 returns-clause-shifted c =
     let o = head_of c.args.self.now _ c.args.place.volume c.args.place.number c.index-i.result refl c.index-i.ensures c.args.place.named c.if-unit-self.false in
-    (o.0, o.1, rows-set c.args.self.now c.from-at.result _ (Deferred c.args.place.volume) c.from-at.ensures)
+    (o.0, o.1, rows-set c.args.self.now c.from-at.result _ _ c.from-at.ensures)
