@@ -1,6 +1,8 @@
 // Tests of the marks over a bitmap and a chain.
 #![tactic(auto)]
 
+ghost use Rattle.std.specs.Prelude.{◌≡◌, false, length, replicate};
+
 #[cfg(test)]
 mod tests {
     use marks::fault::MarksFault;
@@ -21,11 +23,14 @@ mod tests {
     }
 
     // seven units of nine go to three records; one record is deferred, and given back
-    fn round<A: Allocator>(rt: &impl Abort, marks: &mut Marks<A>) -> Result<(), Fail> {
+    fn round<A: Allocator + Drop>(rt: &impl Abort, pool: A) -> Result<(), Fail>
+        requires { A.Allocator.units pool ≡ replicate (length (A.Allocator.units pool)) false }
+    {
+        let mut marks = Marks::make(pool);
         marks.take(1, 2, 3)?;
         marks.take(1, 3, 2)?;
         marks.take(63, 63, 2)?;
-        assert_eq!(rt; units_of(marks, 1, 2), 3);
+        assert_eq!(rt; units_of(&marks, 1, 2), 3);
         assert_eq!(rt; marks.take(1, 2, 3), Err(MarksFault::AllOut));
         assert_eq!(rt;
             marks.take(64, 0, 1),
@@ -49,35 +54,25 @@ mod tests {
         assert_eq!(rt; marks.defer(63, 63), 2);
         assert_eq!(rt; marks.give_back(), 5);
         assert_eq!(rt; marks.give_back(), 0);
-        assert_eq!(rt; units_of(marks, 1, 2), 2);
-        assert_eq!(rt; units_of(marks, 1, 3), 2);
-        assert_eq!(rt; units_of(marks, 63, 63), 0);
+        assert_eq!(rt; units_of(&marks, 1, 2), 2);
+        assert_eq!(rt; units_of(&marks, 1, 3), 2);
+        assert_eq!(rt; units_of(&marks, 63, 63), 0);
         marks.take(5, 5, 5)?;
-        assert_eq!(rt; units_of(marks, 5, 5), 5);
+        assert_eq!(rt; units_of(&marks, 5, 5), 5);
         Ok(())
-    }
-
-    fn bitmap_round(rt: &impl Abort, size: usize) -> Result<(), Fail> {
-        let mut memory = [0xaau8; 512];
-        Bitmap::check(size, &memory)?;
-        let mut marks = Marks::make(Bitmap::make(size, &mut memory));
-        round(rt, &mut marks)
-    }
-
-    fn chain_round(rt: &impl Abort, size: usize) -> Result<(), Fail> {
-        let mut links = [0xaaaau16; 4096];
-        Chain::check(size, &links)?;
-        let mut marks = Marks::make(Chain::make(size, &mut links));
-        round(rt, &mut marks)
     }
 
     #[test]
     fn bitmap(rt: HostRuntime) -> Result<(), Fail> {
-        bitmap_round(&rt, 9)
+        let mut memory = [0xaau8; 512];
+        Bitmap::check(9, &memory)?;
+        round(&rt, Bitmap::make(9, &mut memory))
     }
 
     #[test]
     fn chain(rt: HostRuntime) -> Result<(), Fail> {
-        chain_round(&rt, 9)
+        let mut links = [0xaaaau16; 4096];
+        Chain::check(9, &links)?;
+        round(&rt, Chain::make(9, &mut links))
     }
 }
