@@ -1,5 +1,7 @@
 -- What the orders do that move units, from what the tally and the marks do.
 use Rattle.std.proofs.Common.{◌≡◌, ℕ, zero, suc, ◌+◌, ◌-◌, ◌≤◌, Bool, List, map, Ok, sym, refl, ap, ◌∙◌, subst, arith}
+use Rattle.pool.specs.declared.allocator.Allocator.{Ghosts as AllocatorMembers}
+use Rattle.costs.specs.declared.policy.CostPolicy.{Ghosts as PolicyMembers}
 use Rattle.orders.specs.declared.answer.Answer.TheVariants.{Done, Refused}
 use Rattle.orders.specs.declared.answer.Refusal.{Refusal}
 use Rattle.orders.specs.Meaning.{Meaning, folder, volume, quota, reserve, resize, begin, hold_writes, hold_frees, assign, abort, write, free, commit, turn, tell}
@@ -17,13 +19,13 @@ use Rattle.rules.specs.Theorems.{Moves, Fits, given_back}
 use Rattle.rules.proofs.Accepted.{write_ok}
 use Rattle.rules.proofs.Finds.{finds}
 use Rattle.marks.specs.declared.marks.Marks.{Marks}
-use Rattle.marks.specs.Sound.{Sound as MarksSound, pool_of as pool_in, holders_of as holders_in, size_of, returned, take_answer, TookFor}
+use Rattle.marks.specs.Sound.{pool_of as pool_in, holders_of as holders_in, size_of, returned, take_answer, TookFor}
 use Rattle.marks.proofs.Takes.{answer_ok}
 use Rattle.tally.specs.declared.Tally.{Tally}
-use Rattle.tally.specs.Parts.{book_of as book_in, figures_of, Same, Did as TallyDid}
+use Rattle.tally.specs.Parts.{book_of as book_in, figures_of, Same, Accepts, Did as TallyDid}
 use Rattle.ledger.specs.declared.Ledger.{Ledger}
-use Rattle.ledger.specs.Parts.{book_of, holders_of, pool_of, figures, Sound, PoolKept, Did}
-use Rattle.ledger.proofs.Laws.{figures_tally, retallied}
+use Rattle.ledger.specs.Parts.{book_of, holders_of, pool_of, units_of, lent_of, figures, PoolKept, DidTo}
+use Rattle.ledger.proofs.Laws.{worst_is, size_is, sane, fair, figures_tally}
 
 pool_same : {A : Type 0} (m : Meaning) (p : A) → PoolKept m p p
 pool_same (folder p n) x = refl
@@ -65,124 +67,121 @@ took_from : (h : Holder) (n : ℕ) (us us' vs : List Bool) (hs hs' ks : List Hol
 took_from h n us us' vs hs hs' ks e f took =
     subst (λ (x : List Bool). TookFor h n x vs hs' ks) e (subst (λ (x : List Holder). TookFor h n us vs x ks) f took)
 
-module _ {A P Lent : Type 0} (U : A → List Bool) (W : A → Type 0) (L : A → Lent) (C : P → ℕ → ℕ) (X : P → ℕ) where
+module _ {A P : Type 0} {gA : AllocatorMembers A} {gP : PolicyMembers P} where
   -- a refused order
-  pub left_alone : (l : Ledger A P) (m : Meaning) (f : Refusal) → Sound U W C X l → Fits m → Refused f ≡ answer (figures C X l) (book_of l) m → Did U W L C X l l m (Refused f)
-  left_alone l m f sound fits e =
+  pub refused : (l : Ledger A P gA gP) (t : Tally) (m : Meaning) (f : Refusal) → Fits m → TallyDid l.tally t m (Refused f) →
+      DidTo l t l.marks l.policy m (Refused f)
+  refused l t m f fits d =
       record {
         fits = fits;
-        marks_sound = sound.marks_sound;
         policy_same = refl;
-        same = record { size = refl; slop = refl; worst = refl };
+        same = d.same;
         size_same = refl;
-        answered = e;
-        booked = refl;
+        answered = d.answered (gP.cost l.policy) ∙ ap (λ (F : Figures). answer F (book_of l) m) (figures_tally l);
+        booked = ap book_in d.left;
         marked = refl;
         moved = refl;
-        untouched = refl;
+        left = d.left;
+        marks_left = refl;
         pool_kept = pool_same m (pool_of l);
         lent = refl;
       }
 
-  pub refused : (l : Ledger A P) (t : Tally) (m : Meaning) (f : Refusal) → Sound U W C X l → Fits m → TallyDid l.tally t m (Refused f) →
-      Did U W L C X l (retallied U W L C X l t) m (Refused f)
-  refused l t m f sound fits d =
-      subst (λ (x : Tally). Did U W L C X l (retallied U W L C X l x) m (Refused f)) (sym d.left)
-      (left_alone l m f sound fits (d.answered (C l.policy) ∙ ap (λ (F : Figures). answer F (book_of l) m) (figures_tally U W L C X l sound)))
-
-  -- the ledger with another tally and other marks
-  abbrev pub remade : Ledger A P → Tally → Marks A → Ledger A P
-  remade l t ms = record { tally = t; marks = ms; policy = l.policy }
+  -- an order that is refused before it is begun
+  pub left_alone : (l : Ledger A P gA gP) (m : Meaning) (f : Refusal) → Fits m →
+      ((cost : ℕ → ℕ) → answer (figures_of cost l.tally) (book_of l) m ≡ Refused f) → DidTo l l.tally l.marks l.policy m (Refused f)
+  left_alone l m f fits e =
+      let same : Same l.tally l.tally = record { size = refl; slop = refl; worst = refl } in
+      refused l l.tally m f fits (record { answered = λ cost. sym (e cost); booked = λ cost. refl; same = same; left = refl })
 
   -- an accepted order that changes who has units
-  pub moving : (l : Ledger A P) (t : Tally) (ms : Marks A) (m : Meaning) (k : ℕ) → Sound U W C X l → Fits m → TallyDid l.tally t m (Done k) →
-      MarksSound U W ms → size_of ms ≡ size_of l.marks →
-      holders_in ms ≡ mark (book_of l) m (U (pool_of l)) (U (pool_in ms)) (holders_of l) → Moves (figures C X l) m (holders_of l) (U (pool_of l)) (U (pool_in ms)) →
-      PoolKept m (pool_of l) (pool_in ms) → L (pool_in ms) ≡ L (pool_of l) → Did U W L C X l (remade l t ms) m (Done k)
-  moving l t ms m k sound fits d well size marked moves kept lent =
+  pub moving : (l : Ledger A P gA gP) (t : Tally) (ms : Marks A gA) (m : Meaning) (k : ℕ) → Fits m → TallyDid l.tally t m (Done k) →
+      size_of ms ≡ size_of l.marks →
+      holders_in ms ≡ mark (book_of l) m (units_of l) (gA.units (pool_in ms)) (holders_of l) → Moves (figures l) m (holders_of l) (units_of l) (gA.units (pool_in ms)) →
+      PoolKept m (pool_of l) (pool_in ms) → gA.lent (pool_in ms) ≡ lent_of l → DidTo l t ms l.policy m (Done k)
+  moving l t ms m k fits d size marked moves kept lent =
       record {
         fits = fits;
-        marks_sound = well;
         policy_same = refl;
         same = d.same;
         size_same = size;
-        answered = d.answered (C l.policy) ∙ ap (λ (F : Figures). answer F (book_of l) m) (figures_tally U W L C X l sound);
-        booked = d.booked (C l.policy) ∙ ap (λ (F : Figures). book_after F (book_of l) m (Done k)) (figures_tally U W L C X l sound);
+        answered = d.answered (gP.cost l.policy) ∙ ap (λ (F : Figures). answer F (book_of l) m) (figures_tally l);
+        booked = d.booked (gP.cost l.policy) ∙ ap (λ (F : Figures). book_after F (book_of l) m (Done k)) (figures_tally l);
         marked = marked;
         moved = moves;
-        untouched = tt;
+        left = d.left;
+        marks_left = tt;
         pool_kept = kept;
         lent = lent;
       }
 
-  pub freeing : (l : Ledger A P) (t : Tally) (ms : Marks A) (x r v k : ℕ) → Sound U W C X l → Fits (free x r) → TallyDid l.tally t (free x r) (Done k) →
+  pub freeing : (l : Ledger A P gA gP) (t : Tally) (ms : Marks A gA) (x r v k : ℕ) → Fits (free x r) → TallyDid l.tally t (free x r) (Done k) →
       v ≡ volume_of (transaction (book_of l) x) →
-      MarksSound U W ms → size_of ms ≡ size_of l.marks → holders_in ms ≡ map (defer v r) (holders_of l) → pool_in ms ≡ pool_of l →
-      Did U W L C X l (remade l t ms) (free x r) (Done k)
-  freeing l t ms x r v k sound fits d on well size holders pool =
-      moving l t ms (free x r) k sound fits d well size (holders ∙ ap (λ (w : ℕ). map (defer w r) (holders_of l)) on) (ap U pool) pool (ap L pool)
+      size_of ms ≡ size_of l.marks → holders_in ms ≡ map (defer v r) (holders_of l) → pool_in ms ≡ pool_of l →
+      DidTo l t ms l.policy (free x r) (Done k)
+  freeing l t ms x r v k fits d on size holders pool =
+      moving l t ms (free x r) k fits d size (holders ∙ ap (λ (w : ℕ). map (defer w r) (holders_of l)) on) (ap gA.units pool) pool (ap gA.lent pool)
 
-  pub resizing : (l : Ledger A P) (t : Tally) (ms : Marks A) (v n old k : ℕ) → Sound U W C X l → Fits (resize v n) → TallyDid l.tally t (resize v n) (Done k) →
+  pub resizing : (l : Ledger A P gA gP) (t : Tally) (ms : Marks A gA) (v n old k : ℕ) → Fits (resize v n) → TallyDid l.tally t (resize v n) (Done k) →
       old ≡ records (book_of l) v →
-      MarksSound U W ms → size_of ms ≡ size_of l.marks → holders_in ms ≡ defer_from v n (old - n) (holders_of l) → pool_in ms ≡ pool_of l →
-      Did U W L C X l (remade l t ms) (resize v n) (Done k)
-  resizing l t ms v n old k sound fits d was well size holders pool =
-      moving l t ms (resize v n) k sound fits d well size (holders ∙ ap (λ (o : ℕ). defer_from v n (o - n) (holders_of l)) was) (ap U pool) pool (ap L pool)
+      size_of ms ≡ size_of l.marks → holders_in ms ≡ defer_from v n (old - n) (holders_of l) → pool_in ms ≡ pool_of l →
+      DidTo l t ms l.policy (resize v n) (Done k)
+  resizing l t ms v n old k fits d was size holders pool =
+      moving l t ms (resize v n) k fits d size (holders ∙ ap (λ (o : ℕ). defer_from v n (o - n) (holders_of l)) was) (ap gA.units pool) pool (ap gA.lent pool)
 
-  pub turning : (l : Ledger A P) (t : Tally) (ms : Marks A) (k : ℕ) → Sound U W C X l → TallyDid l.tally t turn (Done k) →
-      MarksSound U W ms → size_of ms ≡ size_of l.marks → holders_in ms ≡ map release (holders_of l) → U (pool_in ms) ≡ returned (U (pool_of l)) (holders_of l) →
-      L (pool_in ms) ≡ L (pool_of l) → Did U W L C X l (remade l t ms) turn (Done k)
-  turning l t ms k sound d well size holders units lent =
-      moving l t ms turn k sound tt d well size holders (units ∙ returned_given (U (pool_of l)) (holders_of l)) tt lent
+  pub turning : (l : Ledger A P gA gP) (t : Tally) (ms : Marks A gA) (k : ℕ) → TallyDid l.tally t turn (Done k) →
+      size_of ms ≡ size_of l.marks → holders_in ms ≡ map release (holders_of l) → gA.units (pool_in ms) ≡ returned (units_of l) (holders_of l) →
+      gA.lent (pool_in ms) ≡ lent_of l → DidTo l t ms l.policy turn (Done k)
+  turning l t ms k d size holders units lent =
+      moving l t ms turn k tt d size holders (units ∙ returned_given (units_of l) (holders_of l)) tt lent
 
   -- a write that is accepted, of which nothing is done yet
-  module _ (l : Ledger A P) (x r s v n : ℕ) (sound : Sound U W C X l)
-      (accepted : (cost : ℕ → ℕ) → answer (figures_of cost l.tally) (book_of l) (write x r s) ≡ Done (cost s)) (on : v ≡ volume_of (transaction (book_of l) x))
-      (costs : n ≡ C l.policy s) where
-    done_as : answer (figures C X l) (book_of l) (write x r s) ≡ Done n
-    done_as = ap (λ (F : Figures). answer F (book_of l) (write x r s)) (sym (figures_tally U W L C X l sound)) ∙ accepted (C l.policy) ∙ ap Done (sym costs)
+  module _ (l : Ledger A P gA gP) (x r s v n : ℕ) (accepts : Accepts l.tally x r s v) (costs : n ≡ gP.cost l.policy s) where
+    done_as : answer (figures l) (book_of l) (write x r s) ≡ Done n
+    done_as = ap (λ (F : Figures). answer F (book_of l) (write x r s)) (sym (figures_tally l)) ∙ accepts.answered (gP.cost l.policy) ∙ ap Done (sym costs)
 
     pub size_fits : s ≤ 16
-    size_fits = (write_ok (figures C X l) (book_of l) n x r s done_as).4
+    size_fits = (write_ok (figures l) (book_of l) n x r s done_as).4
 
     pub cheap : n ≤ l.tally.worst
-    cheap = omega (arith, sound.sane.bounded.within s size_fits, sound.worst_is, costs)
+    cheap = omega (arith, (gP.bounded l.policy).within s size_fits, worst_is l, costs)
 
-    pub finds-units : (ms : Marks A) → pool_in ms ≡ pool_of l → take_answer v r n (U (pool_in ms)) ≡ Ok tt
+    pub finds-units : (ms : Marks A gA) → pool_in ms ≡ pool_of l → take_answer v r n (gA.units (pool_in ms)) ≡ Ok tt
     finds-units ms pool =
-        let F = figures C X l in
+        let F = figures l in
         let b = book_of l in
+        let on = accepts.volume_is in
         let o = write_ok F b n x r s done_as in
-        let shaped = sound.fair.shaped in
+        let shaped = (fair l).shaped in
         let there = (shaped.transactions x).on_volume (λ idle. let a = o.1 in let z : ◌≡◌ {A = ℕ} 0 1 = cc in omega arith) in
         let few = (shaped.datasets (volume_of (transaction b x))).contents.records_few in
-        let room = finds F b (holders_of l) (U (pool_of l)) x r s n sound.sane sound.fair done_as in
-        let long = sound.marks_sound.sized in
-        let same : U (pool_in ms) ≡ U (pool_of l) = ap U pool in
+        let room = finds F b (holders_of l) (units_of l) x r s n (sane l) (fair l) done_as in
+        let long = l.marks.sized in
+        let same : gA.units (pool_in ms) ≡ units_of l = ap gA.units pool in
         subst (λ (us : List Bool). take_answer v r n us ≡ Ok tt) (sym same)
-        (sym (answer_ok v r n (U (pool_of l)) (omega (arith, there.0, shaped.few)) (omega (arith, o.3)) (omega (arith, sound.size_is))))
+        (sym (answer_ok v r n (units_of l) (omega (arith, there.0, shaped.few)) (omega (arith, o.3)) (omega (arith, size_is l))))
 
-    pub writing : (t : Tally) (m₁ m₂ : Marks A) → Fits (write x r s) → Same l.tally t →
+    pub writing : (t : Tally) (m₁ m₂ : Marks A gA) → Fits (write x r s) → Same l.tally t →
         ((cost : ℕ → ℕ) (z : ℕ) → cost z ≡ n → book_in t ≡ next (figures_of cost l.tally) (book_of l) (write x r z)) →
         holders_in m₁ ≡ map (defer v r) (holders_of l) → pool_in m₁ ≡ pool_of l → size_of m₁ ≡ size_of l.marks →
-        MarksSound U W m₂ → TookFor (Record v r) n (U (pool_in m₁)) (U (pool_in m₂)) (holders_in m₁) (holders_in m₂) → size_of m₂ ≡ size_of m₁ → L (pool_in m₂) ≡ L (pool_in m₁) →
-        Did U W L C X l (remade l t m₂) (write x r s) (Done n)
-    writing t m₁ m₂ fits same booked holders pool size well took size₂ lent =
-        let us = U (pool_of l) in
-        let vs = U (pool_in m₂) in
+        TookFor (Record v r) n (gA.units (pool_in m₁)) (gA.units (pool_in m₂)) (holders_in m₁) (holders_in m₂) → size_of m₂ ≡ size_of m₁ → gA.lent (pool_in m₂) ≡ gA.lent (pool_in m₁) →
+        DidTo l t m₂ l.policy (write x r s) (Done n)
+    writing t m₁ m₂ fits same booked holders pool size took size₂ lent =
+        let us = units_of l in
+        let vs = gA.units (pool_in m₂) in
         let hs = map (defer v r) (holders_of l) in
-        let took' = took_from (Record v r) n (U (pool_in m₁)) us vs (holders_in m₁) hs (holders_in m₂) (ap U pool) holders took in
+        let took' = took_from (Record v r) n (gA.units (pool_in m₁)) us vs (holders_in m₁) hs (holders_in m₂) (ap gA.units pool) holders took in
         record {
           fits = fits;
-          marks_sound = well;
           policy_same = refl;
           same = same;
           size_same = size₂ ∙ size;
           answered = sym done_as;
-          booked = booked (C l.policy) s (sym costs) ∙ ap (λ (F : Figures). next F (book_of l) (write x r s)) (figures_tally U W L C X l sound);
-          marked = took'.marks ∙ ap (λ (w : ℕ). handed (Record w r) us vs (map (defer w r) (holders_of l))) on;
+          booked = booked (gP.cost l.policy) s (sym costs) ∙ ap (λ (F : Figures). next F (book_of l) (write x r s)) (figures_tally l);
+          marked = took'.marks ∙ ap (λ (w : ℕ). handed (Record w r) us vs (map (defer w r) (holders_of l))) accepts.volume_is;
           moved = record { as_many = took'.long; stay_out = took'.stays; counted = took'.more ∙ ap (λ (k : ℕ). outs us + k) costs };
-          untouched = tt;
+          left = tt;
+          marks_left = tt;
           pool_kept = tt;
-          lent = lent ∙ ap L pool;
+          lent = lent ∙ ap gA.lent pool;
         }

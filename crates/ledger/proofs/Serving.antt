@@ -2,6 +2,8 @@
 use Rattle.std.proofs.Common.{◌≡◌, ℕ, suc, ◌+◌, ◌<◌, ◌≤◌, Bool, true, false, cond, leb, List, [], ◌∷◌, ◌++◌, map, length, get_or, take, drop, set, Ok, Err, Result, sym, refl, ap, ◌∙◌, subst, append_assoc, arith}
 use Rattle.std.proofs.lemmas.List.{take_more, drop_more, set_at, map-append, length-map, length-take-le, append-nil}
 use Rattle.std.proofs.lemmas.Bool.{leb-true}
+use Rattle.pool.specs.declared.allocator.Allocator.{Ghosts as AllocatorMembers}
+use Rattle.costs.specs.declared.policy.CostPolicy.{Ghosts as PolicyMembers}
 use Rattle.orders.specs.declared.answer.Answer.{Answer}
 use Rattle.orders.specs.declared.answer.Answer.TheVariants.{Done, Refused, Told, Stopped}
 use Rattle.orders.specs.declared.order.Order.{Order}
@@ -13,7 +15,7 @@ use Rattle.rules.specs.Journal.{Entry, book_after}
 use Rattle.rules.specs.Standing.{entry}
 use Rattle.rules.specs.Served.{Exchange, exchange, served, book_then, answers_of, exchanges}
 use Rattle.ledger.specs.declared.Ledger.{Ledger}
-use Rattle.ledger.specs.Parts.{book_of, pool_of, figures, Sound, Stands, Untouched}
+use Rattle.ledger.specs.Parts.{book_of, units_of, lent_of, figures, Stands, Untouched}
 use Rattle.ledger.specs.declared.fault.MakeFault.{MakeFault}
 use Rattle.ledger.specs.declared.fault.ServeFault.{ServeFault}
 use Rattle.ledger.specs.declared.fault.ServeFault.TheVariants.{FewPlaces}
@@ -45,51 +47,50 @@ pub last : (xs : List Exchange) (x : Exchange) → AllChangeless (xs ++ x ∷ []
 last [] x h = h.0
 last (y ∷ ys) x h = last ys x h.1
 
-module _ {A P Lent : Type 0} (U : A → List Bool) (W : A → Type 0) (L : A → Lent) (C : P → ℕ → ℕ) (X : P → ℕ) where
-  still : (l l' : Ledger A P) (a : Answer) → Changeless a → Untouched l l' a → l' ≡ l
+module _ {A P : Type 0} {gA : AllocatorMembers A} {gP : PolicyMembers P} where
+  still : (l l' : Ledger A P gA gP) (a : Answer) → Changeless a → Untouched l l' a → l' ≡ l
   still l l' (Done v) h e = absurd h
   still l l' (Refused f) h e = e
   still l l' (Told f) h e = e
   still l l' (Stopped n p) h e = e
 
-  pub through-none : (l : Ledger A P) → Through U L C X l l []
+  pub through-none : (l : Ledger A P gA gP) → Through l l []
   through-none l = record { figured = refl; booked = refl; law = λ F j s. ([], (s, refl)); untouched = λ _. refl; lent = refl }
 
-  pub through-more : (l₀ l l' : Ledger A P) (xs : List Exchange) (m : Meaning) (a : Answer) → Through U L C X l₀ l xs →
-      ((F : Figures) (j : List Entry) → Stands U C X F l j → Stands U C X F l' (entry m a (U (pool_of l)) (U (pool_of l')) ∷ j)) →
-      book_of l' ≡ book_after (figures C X l) (book_of l) m a → figures C X l' ≡ figures C X l → Untouched l l' a → L (pool_of l') ≡ L (pool_of l) →
-      Through U L C X l₀ l' (xs ++ exchange m a ∷ [])
+  pub through-more : (l₀ l l' : Ledger A P gA gP) (xs : List Exchange) (m : Meaning) (a : Answer) → Through l₀ l xs →
+      ((F : Figures) (j : List Entry) → Stands F l j → Stands F l' (entry m a (units_of l) (units_of l') ∷ j)) →
+      book_of l' ≡ book_after (figures l) (book_of l) m a → figures l' ≡ figures l → Untouched l l' a → lent_of l' ≡ lent_of l →
+      Through l₀ l' (xs ++ exchange m a ∷ [])
   through-more l₀ l l' xs m a t law booked figured untouched lent =
       record {
         figured = figured ∙ t.figured;
         booked =
-            booked ∙ ap (λ (F : Figures). book_after F (book_of l) m a) t.figured ∙ ap (λ (b : Book). book_after (figures C X l₀) b m a) t.booked
-            ∙ sym (then_push (figures C X l₀) (book_of l₀) xs (exchange m a));
+            booked ∙ ap (λ (F : Figures). book_after F (book_of l) m a) t.figured ∙ ap (λ (b : Book). book_after (figures l₀) b m a) t.booked
+            ∙ sym (then_push (figures l₀) (book_of l₀) xs (exchange m a));
         law = λ F j s.
             let was = t.law F j s in
-            let e : Entry = entry m a (U (pool_of l)) (U (pool_of l')) in
+            let e : Entry = entry m a (units_of l) (units_of l') in
             (e ∷ was.0, (law F (was.0 ++ j) was.1.0, ap (λ (ys : List Exchange). ys ++ exchange m a ∷ []) was.1.1));
         untouched = λ h. still l l' a (last xs (exchange m a) h) untouched ∙ t.untouched (front xs (exchange m a) h);
         lent = lent ∙ t.lent;
       }
 
   -- i of the orders os are obeyed
-  pub record Sofar (l₀ l : Ledger A P) (os : List Order) (places after : List Answer) (i : ℕ) : Type 0 where
-    pub sound : Sound U W C X l
-    pub through : Through U L C X l₀ l (served (figures C X l₀) (book_of l₀) (map meaning (take i os)))
-    pub answered : after ≡ answers_of (served (figures C X l₀) (book_of l₀) (map meaning (take i os))) ++ drop i places
+  pub record Sofar (l₀ l : Ledger A P gA gP) (os : List Order) (places after : List Answer) (i : ℕ) : Type 0 where
+    pub through : Through l₀ l (served (figures l₀) (book_of l₀) (map meaning (take i os)))
+    pub answered : after ≡ answers_of (served (figures l₀) (book_of l₀) (map meaning (take i os))) ++ drop i places
 
-  pub sofar_none : (l : Ledger A P) (os : List Order) (places : List Answer) → Sound U W C X l → Sofar l l os places places 0
-  sofar_none l os places sound = record { sound = sound; through = through-none l; answered = refl }
+  pub sofar_none : (l : Ledger A P gA gP) (os : List Order) (places : List Answer) → Sofar l l os places places 0
+  sofar_none l os places = record { through = through-none l; answered = refl }
 
-  pub sofar_more : (l₀ l l' : Ledger A P) (os : List Order) (places after after' : List Answer) (i : ℕ) (d o : Order) (a : Answer) → o ≡ get_or os i d → i < length os → length os ≤ length places →
-      Sofar l₀ l os places after i → Sound U W C X l' →
-      ((F : Figures) (j : List Entry) → Stands U C X F l j → Stands U C X F l' (entry (meaning o) a (U (pool_of l)) (U (pool_of l')) ∷ j)) →
-      a ≡ answer (figures C X l) (book_of l) (meaning o) →
-      book_of l' ≡ book_after (figures C X l) (book_of l) (meaning o) a → figures C X l' ≡ figures C X l → Untouched l l' a → L (pool_of l') ≡ L (pool_of l) →
+  pub sofar_more : (l₀ l l' : Ledger A P gA gP) (os : List Order) (places after after' : List Answer) (i : ℕ) (d o : Order) (a : Answer) → o ≡ get_or os i d → i < length os → length os ≤ length places →
+      Sofar l₀ l os places after i →
+      ((F : Figures) (j : List Entry) → Stands F l j → Stands F l' (entry (meaning o) a (units_of l) (units_of l') ∷ j)) →
+      a ≡ answer (figures l) (book_of l) (meaning o) →
+      book_of l' ≡ book_after (figures l) (book_of l) (meaning o) a → figures l' ≡ figures l → Untouched l l' a → lent_of l' ≡ lent_of l →
       after' ≡ set after i a → Sofar l₀ l' os places after' (i + 1)
-  sofar_more l₀ l l' os places after after' i d o a is below room s sound law answered booked figured untouched lent put =
-      let F = figures C X l₀ in
+  sofar_more l₀ l l' os places after after' i d o a is below room s law answered booked figured untouched lent put =
+      let F = figures l₀ in
       let b = book_of l₀ in
       let ms = map meaning (take i os) in
       let xs = served F b ms in
@@ -104,8 +105,7 @@ module _ {A P Lent : Type 0} (U : A → List Bool) (W : A → Type 0) (L : A →
       let y = get_or places i a in
       let rest = drop (i + 1) places in
       record {
-        sound = sound;
-        through = subst (λ (ys : List Exchange). Through U L C X l₀ l' ys) (sym whole) (through-more l₀ l l' xs m a s.through law booked figured untouched lent);
+        through = subst (λ (ys : List Exchange). Through l₀ l' ys) (sym whole) (through-more l₀ l l' xs m a s.through law booked figured untouched lent);
         answered =
             put ∙ ap (λ (zs : List Answer). set zs i a) s.answered ∙ ap (λ (zs : List Answer). set (answers_of xs ++ zs) i a) (drop_more places i a (omega arith))
             ∙ set_at (answers_of xs) y rest a i long
@@ -113,35 +113,34 @@ module _ {A P Lent : Type 0} (U : A → List Bool) (W : A → Type 0) (L : A →
             ∙ ap (λ (ys : List Exchange). answers_of ys ++ rest) (sym whole);
       }
 
-  pub sofar_all : (l₀ l : Ledger A P) (os : List Order) (places after : List Answer) (i : ℕ) → i ≡ length os → Sofar l₀ l os places after i → Sofar l₀ l os places after (length os)
+  pub sofar_all : (l₀ l : Ledger A P gA gP) (os : List Order) (places after : List Answer) (i : ℕ) → i ≡ length os → Sofar l₀ l os places after i → Sofar l₀ l os places after (length os)
   sofar_all l₀ l os places after i e s = subst (λ (n : ℕ). Sofar l₀ l os places after n) e s
 
   -- the figures of a new ledger
-  pub planned-is : (l : Ledger A P) (pool : A) (policy : P) (slop : ℕ) → Made U pool policy slop l → figures C X l ≡ planned C X (U pool) policy slop
+  pub planned-is : (l : Ledger A P gA gP) (pool : A) (policy : P) (slop : ℕ) → Made pool policy slop l → figures l ≡ planned gP (gA.units pool) policy slop
   planned-is l pool policy slop made =
-      let mk : ℕ → ℕ → P → Figures = λ n k p. record { size = n; slop = k; cost = C p; worst = X p } in
-      ap (λ (n : ℕ). mk n l.tally.slop l.policy) made.size_is ∙ ap (λ (k : ℕ). mk (length (U pool)) k l.policy) made.slop_is
-      ∙ ap (λ (p : P). mk (length (U pool)) slop p) made.policy_is
+      let mk : ℕ → ℕ → P → Figures = λ n k p. record { size = n; slop = k; cost = gP.cost p; worst = gP.worst p } in
+      ap (λ (n : ℕ). mk n l.tally.slop l.policy) made.size_is ∙ ap (λ (k : ℕ). mk (length (gA.units pool)) k l.policy) made.slop_is
+      ∙ ap (λ (p : P). mk (length (gA.units pool)) slop p) made.policy_is
 
   -- a new ledger that served all orders
-  pub all-served : (l₁ l : Ledger A P) (pool : A) (policy : P) (slop : ℕ) (os : List Order) (places after : List Answer) → Made U pool policy slop l₁ → Stands U C X (figures C X l₁) l₁ [] → Sound U W C X l →
-      Through U L C X l₁ l (served (figures C X l₁) (book_of l₁) (map meaning os)) →
-      after ≡ answers_of (served (figures C X l₁) (book_of l₁) (map meaning os)) ++ drop (length os) places →
-      AllServed U W C X (planned C X (U pool) policy slop) (map meaning os) places after l
-  all-served l₁ l pool policy slop os places after made stands sound t answered =
-      let F = planned C X (U pool) policy slop in
+  pub all-served : (l₁ l : Ledger A P gA gP) (pool : A) (policy : P) (slop : ℕ) (os : List Order) (places after : List Answer) → Made pool policy slop l₁ → Stands (figures l₁) l₁ [] →
+      Through l₁ l (served (figures l₁) (book_of l₁) (map meaning os)) →
+      after ≡ answers_of (served (figures l₁) (book_of l₁) (map meaning os)) ++ drop (length os) places →
+      AllServed (planned gP (gA.units pool) policy slop) (map meaning os) places after l
+  all-served l₁ l pool policy slop os places after made stands t answered =
+      let F = planned gP (gA.units pool) policy slop in
       let ms = map meaning os in
-      let plan : figures C X l₁ ≡ F = planned-is l₁ pool policy slop made in
-      let same : served (figures C X l₁) (book_of l₁) ms ≡ served F fresh ms =
+      let plan : figures l₁ ≡ F = planned-is l₁ pool policy slop made in
+      let same : served (figures l₁) (book_of l₁) ms ≡ served F fresh ms =
       ap (λ (G : Figures). served G (book_of l₁) ms) plan ∙ ap (λ (b : Book). served F b ms) made.book_is in
-      let began : Stands U C X F l₁ [] = subst (λ (G : Figures). Stands U C X G l₁ []) plan stands in
+      let began : Stands F l₁ [] = subst (λ (G : Figures). Stands G l₁ []) plan stands in
       let grown = t.law F [] began in
       record {
-        sound = sound;
         figured = t.figured ∙ plan;
         answered = answered ∙ ap (λ (xs : List Exchange). answers_of xs ++ drop (length os) places) same ∙ ap (λ (n : ℕ). answers_of (served F fresh ms) ++ drop n places) (sym (length-map os meaning));
         booked =
-            t.booked ∙ ap (λ (xs : List Exchange). book_then (figures C X l₁) (book_of l₁) xs) same ∙ ap (λ (G : Figures). book_then G (book_of l₁) (served F fresh ms)) plan
+            t.booked ∙ ap (λ (xs : List Exchange). book_then (figures l₁) (book_of l₁) xs) same ∙ ap (λ (G : Figures). book_then G (book_of l₁) (served F fresh ms)) plan
             ∙ ap (λ (b : Book). book_then F b (served F fresh ms)) made.book_is;
         journal = grown.0 ++ [];
         stands = grown.1.0;

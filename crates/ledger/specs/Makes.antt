@@ -1,6 +1,8 @@
 -- What a making is given, and what it makes.
 use Rattle.std.specs.Prelude.{◌≡◌, ℕ, Bool, cond, List, length, Ok, Err, Result, nat_lt}
+use Rattle.pool.specs.declared.allocator.Allocator.{Ghosts as AllocatorMembers}
 use Rattle.pool.specs.Units.{outs}
+use Rattle.costs.specs.declared.policy.CostPolicy.{Ghosts as PolicyMembers}
 use Rattle.rules.specs.Book.{fresh}
 use Rattle.ledger.specs.declared.fault.MakeFault.{MakeFault}
 use Rattle.ledger.specs.declared.fault.MakeFault.TheVariants.{SlopTooLarge, UnitOut}
@@ -15,9 +17,9 @@ abbrev pub check_answer : ℕ → List Bool → Result (Unit {0}) MakeFault
 check_answer slop us = cond (nat_lt slop (length us)) (cond (any_out us) (Err UnitOut) (Ok tt)) (Err SlopTooLarge)
 
 -- made of this allocator, this policy and this slop
-pub record Made {A P : Type 0} (U : A → List Bool) (pool : A) (policy : P) (slop : ℕ) (l : Ledger A P) : Type 0 where
+pub record Made {A P : Type 0} {gA : AllocatorMembers A} {gP : PolicyMembers P} (pool : A) (policy : P) (slop : ℕ) (l : Ledger A P gA gP) : Type 0 where
   pub pool_is : pool_of l ≡ pool
   pub policy_is : l.policy ≡ policy
-  pub size_is : l.tally.size ≡ length (U pool)
+  pub size_is : l.tally.size ≡ length (gA.units pool)
   pub slop_is : l.tally.slop ≡ slop
   pub book_is : book_of l ≡ fresh

@@ -1,6 +1,7 @@
 // Why a ledger is not made, or orders are not served.
 ghost use Rattle.std.specs.Prelude.{◌≡◌};
 ghost use Rattle.ledger.specs.Faults.{ground};
+ghost use Rattle.ledger.specs.declared.fault.ServeFault.TheVariants.{NotMade};
 
 /// Why an allocator and a slop make no ledger.
 #[derive(Clone, Copy, PartialEq, Eq, Debug)]
@@ -30,4 +31,12 @@ pub enum ServeFault {
     NotMade(MakeFault),
     /// There are fewer places for answers than orders.
     FewPlaces,
+}
+
+impl From<MakeFault> for ServeFault {
+    ghost from_gives = { λ fault unserved. unserved ≡ NotMade fault };
+
+    fn from(fault: MakeFault) -> ServeFault {
+        ServeFault::NotMade(fault)
+    }
 }

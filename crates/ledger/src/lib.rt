@@ -1,10 +1,11 @@
 // The ledger of a pool: the book of its datasets and transactions, and who has each unit.
 #![tactic(auto)]
 
+ghost use Rattle.ledger.specs.Joined.{SoundIn};
+
 pub mod fault;
 pub mod making;
 pub mod obey;
-mod plain;
 pub mod reply;
 pub mod serve;
 mod units;
@@ -14,7 +15,7 @@ use marks::marks::Marks;
 use pool::allocator::Allocator;
 use tally::Tally;
 
-/// A ledger over an allocator of units and a cost policy.
+/// A ledger over an allocator of units and a cost policy. Some journal stands behind it.
 #[derive(Drop)]
 pub struct Ledger<A: Allocator, P: CostPolicy> {
     // datasets and transactions
@@ -22,4 +23,5 @@ pub struct Ledger<A: Allocator, P: CostPolicy> {
     // the allocator, and the holder of each of its units
     marks: Marks<A>,
     policy: P,
+    ghost sound: { ∥ SoundIn A.Allocator P.CostPolicy tally marks policy ∥₁ },
 }

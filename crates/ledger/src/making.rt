@@ -12,7 +12,6 @@ use tally::Tally;
 
 // Whether some unit is out.
 fn any_out<A: Allocator>(pool: &A) -> bool
-    requires { A.Allocator.wellmade pool.now }
     ensures { result ≡ any_out (A.Allocator.units pool.now) }
 {
     let size = pool.size();
@@ -26,7 +25,6 @@ fn any_out<A: Allocator>(pool: &A) -> bool
 
 /// Whether the allocator and the slop make a ledger.
 pub fn check<A: Allocator>(pool: &A, slop: u16) -> Result<(), MakeFault>
-    requires { A.Allocator.wellmade pool.now }
     ensures { result ≡ check_answer slop (A.Allocator.units pool.now) }
 {
     if slop >= pool.size() {
@@ -41,11 +39,9 @@ pub fn check<A: Allocator>(pool: &A, slop: u16) -> Result<(), MakeFault>
 impl<A: Allocator, P: CostPolicy> Ledger<A, P> {
     /// A ledger with the root alone, every transaction idle and every unit in.
     pub fn make(pool: A, policy: P, slop: u16) -> Self
-        requires wellmade { A.Allocator.wellmade pool }
-        requires checked { check_answer slop (A.Allocator.units pool) ≡ Ok tt }
-        ensures sound { Sound A.Allocator.units A.Allocator.wellmade P.CostPolicy.cost P.CostPolicy.worst result }
-        ensures stands { Stands A.Allocator.units P.CostPolicy.cost P.CostPolicy.worst (figures P.CostPolicy.cost P.CostPolicy.worst result) result [] }
-        ensures made { Made A.Allocator.units pool policy slop result }
+        requires { check_answer slop (A.Allocator.units pool) ≡ Ok tt }
+        ensures stands { Stands (figures result) result [] }
+        ensures made { Made pool policy slop result }
     {
         let size = pool.size();
         let worst = policy.worst();
@@ -55,6 +51,11 @@ impl<A: Allocator, P: CostPolicy> Ledger<A, P> {
             policy,
         }
     }
+
+    /// Some journal stands behind the ledger.
+    pub fn sound(&self)
+        ensures { ∥ Sound self.now ∥₁ }
+    {}
 
     /// Gives the allocator and the policy back.
     pub fn close(self) -> (A, P)

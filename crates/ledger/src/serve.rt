@@ -2,7 +2,7 @@
 ghost use Rattle.std.specs.Prelude.{◌≡◌, ◌≤◌, ◌++◌, map, length, drop};
 ghost use Rattle.orders.specs.Meaning.{meaning};
 ghost use Rattle.rules.specs.Served.{served, answers_of};
-ghost use Rattle.ledger.specs.Parts.{book_of, figures, Sound};
+ghost use Rattle.ledger.specs.Parts.{book_of, figures};
 ghost use Rattle.ledger.specs.Serves.{serve_answer, Through, Serves};
 
 use super::Ledger;
@@ -29,18 +29,13 @@ fn check_serving<A: Allocator>(
     orders: usize,
     places: usize,
 ) -> Result<(), ServeFault>
-    requires { A.Allocator.wellmade pool.now }
     ensures { result ≡ serve_answer slop (A.Allocator.units pool.now) orders places }
 {
-    match check(pool, slop) {
-        Ok(()) => {
-            if orders > places {
-                return Err(ServeFault::FewPlaces);
-            }
-            Ok(())
-        }
-        Err(fault) => Err(ServeFault::NotMade(fault)),
+    check(pool, slop)?;
+    if orders > places {
+        return Err(ServeFault::FewPlaces);
     }
+    Ok(())
 }
 
 // Obeys the orders one by one, and puts each answer into its place.
@@ -49,11 +44,9 @@ fn obey_all<A: Allocator, P: CostPolicy>(
     orders: &[Order<'_>],
     answers: &mut [Answer],
 )
-    requires sound { Sound A.Allocator.units A.Allocator.wellmade P.CostPolicy.cost P.CostPolicy.worst ledger.old }
-    requires places { length orders.now ≤ length answers.old }
-    ensures sound { Sound A.Allocator.units A.Allocator.wellmade P.CostPolicy.cost P.CostPolicy.worst ledger.new }
-    ensures through { Through A.Allocator.units A.Allocator.lent P.CostPolicy.cost P.CostPolicy.worst ledger.old ledger.new (served (figures P.CostPolicy.cost P.CostPolicy.worst ledger.old) (book_of ledger.old) (map meaning orders.now)) }
-    ensures answered { answers.new ≡ answers_of (served (figures P.CostPolicy.cost P.CostPolicy.worst ledger.old) (book_of ledger.old) (map meaning orders.now)) ++ drop (length orders.now) answers.old }
+    requires { length orders.now ≤ length answers.old }
+    ensures through { Through ledger.old ledger.new (served (figures ledger.old) (book_of ledger.old) (map meaning orders.now)) }
+    ensures answered { answers.new ≡ answers_of (served (figures ledger.old) (book_of ledger.old) (map meaning orders.now)) ++ drop (length orders.now) answers.old }
 {
     for i in 0..orders.len() {
         answers[i] = answer(ledger.obey(orders[i]));
@@ -69,19 +62,16 @@ pub fn serve<A: Allocator, P: CostPolicy>(
     orders: &[Order<'_>],
     answers: &mut [Answer],
 ) -> Result<Ledger<A, P>, Unserved<A, P>>
-    requires { A.Allocator.wellmade pool }
-    ensures { Serves A.Allocator.units A.Allocator.wellmade P.CostPolicy.cost P.CostPolicy.worst pool policy slop (map meaning orders.now) answers.old answers.new result }
+    ensures { Serves pool policy slop (map meaning orders.now) answers.old answers.new result }
 {
-    match check_serving(&pool, slop, orders.len(), answers.len()) {
-        Ok(()) => {
-            let mut ledger = Ledger::make(pool, policy, slop);
-            obey_all(&mut ledger, orders, answers);
-            Ok(ledger)
-        }
-        Err(fault) => Err(Unserved {
+    if let Err(fault) = check_serving(&pool, slop, orders.len(), answers.len()) {
+        return Err(Unserved {
             fault,
             pool,
             policy,
-        }),
+        });
     }
+    let mut ledger = Ledger::make(pool, policy, slop);
+    obey_all(&mut ledger, orders, answers);
+    Ok(ledger)
 }

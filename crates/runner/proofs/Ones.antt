@@ -1,19 +1,26 @@
 -- One order of a run, and exchanges after exchanges.
 use Rattle.std.proofs.Common.{◌≡◌, ℕ, ◌≤◌, Bool, List, [], ◌∷◌, ◌++◌, length, sym, ap, ◌∙◌, subst, append_assoc, arith}
+use Rattle.std.proofs.Props.{props}
 use Rattle.std.proofs.lemmas.List.{append-nil, length-append}
+use mathlib.Core.Logic.{∥∥₁_elim}
+use native.Mathlib.Nat.{ℕ_set}
+use native.Mathlib.Bridge.{le_prop}
+use Rattle.orders.specs.declared.answer.Layer.{Layer}
+use Rattle.pool.specs.declared.allocator.Allocator.{Ghosts as AllocatorMembers}
+use Rattle.costs.specs.declared.policy.CostPolicy.{Ghosts as PolicyMembers}
 use Rattle.orders.specs.declared.answer.Answer.{Answer}
 use Rattle.orders.specs.declared.answer.Answer.TheVariants.{Done, Refused, Told, Stopped}
 use Rattle.orders.specs.Layout.{answer_bytes, two}
 use Rattle.orders.specs.Meaning.{Meaning}
 use Rattle.rules.specs.Figures.{Figures}
 use Rattle.rules.specs.Book.{Book}
-use Rattle.rules.specs.Law.{Proper}
+use Rattle.rules.specs.Law.{Own, Proper}
 use Rattle.rules.specs.Answers.{answer}
 use Rattle.rules.specs.Journal.{Entry, book_after}
 use Rattle.rules.specs.Standing.{entry}
 use Rattle.rules.specs.Served.{Exchange, exchange, exchanges}
 use Rattle.ledger.specs.declared.Ledger.{Ledger}
-use Rattle.ledger.specs.Parts.{book_of, pool_of, figures, Sound, Stands, Untouched}
+use Rattle.ledger.specs.Parts.{book_of, units_of, lent_of, figures, Stands, Untouched}
 use Rattle.ledger.specs.Serves.{Through}
 use Rattle.ledger.proofs.Serving.{then_push, through-none, through-more, front, last}
 use Rattle.runner.specs.Steps.{One}
@@ -34,24 +41,36 @@ short (Told f) p =
     omega (arith, e, p.0)
 short (Stopped n q) p = absurd p
 
-module _ {A P Lent : Type 0} (U : A → List Bool) (W : A → Type 0) (L : A → Lent) (C : P → ℕ → ℕ) (X : P → ℕ) where
+own_once : (layer : Layer) (n : ℕ) → IsProp (Own layer n)
+own_once Layer.Script n = hlevel props
+own_once Layer.Transactions n = hlevel props
+own_once Layer.Tree n = hlevel props
+own_once Layer.Allocator n = hlevel props
+
+-- an answer is proper in one way only
+proper_once : (a : Answer) → IsProp (Proper a)
+proper_once (Done v) x y = le_prop x y
+proper_once (Refused f) x y = λ i. (own_once f.layer f.number x.0 y.0 i, le_prop x.1 y.1 i, le_prop x.2 y.2 i)
+proper_once (Told f) x y = λ i. (ℕ_set _ _ x.0 y.0 i, le_prop x.1 y.1 i, le_prop x.2 y.2 i, le_prop x.3 y.3 i, le_prop x.4 y.4 i)
+proper_once (Stopped n q) x y = absurd x
+
+module _ {A P : Type 0} {gA : AllocatorMembers A} {gP : PolicyMembers P} where
   -- from what the ledger promises of an order; an answer is proper since the journal with it is lawful
-  pub one : (l l' : Ledger A P) (m : Meaning) (a : Answer) → Sound U W C X l → Sound U W C X l' →
-      ((F : Figures) (j : List Entry) → Stands U C X F l j → Stands U C X F l' (entry m a (U (pool_of l)) (U (pool_of l')) ∷ j)) →
-      a ≡ answer (figures C X l) (book_of l) m → book_of l' ≡ book_after (figures C X l) (book_of l) m a → figures C X l' ≡ figures C X l → Untouched l l' a → L (pool_of l') ≡ L (pool_of l) →
-      One U W L C X l l' m a
-  one l l' m a before sound law answered booked figured untouched lent =
+  pub one : (l l' : Ledger A P gA gP) (m : Meaning) (a : Answer) →
+      ((F : Figures) (j : List Entry) → Stands F l j → Stands F l' (entry m a (units_of l) (units_of l') ∷ j)) →
+      a ≡ answer (figures l) (book_of l) m → book_of l' ≡ book_after (figures l) (book_of l) m a → figures l' ≡ figures l → Untouched l l' a → lent_of l' ≡ lent_of l →
+      One l l' m a
+  one l l' m a law answered booked figured untouched lent =
       record {
-        sound = sound;
-        through = through-more U W L C X l l l' [] m a (through-none U W L C X l) law booked figured untouched lent;
+        through = through-more l l l' [] m a (through-none l) law booked figured untouched lent;
         answered = answered;
-        proper = (law (figures C X l) before.journal before.stands).standing.lawful.1.by_its_own_table;
+        proper = ∥∥₁_elim l.sound (proper_once a) (λ s. (law (figures l) s.journal s.stands).standing.lawful.1.by_its_own_table);
       }
 
   -- the order that follows others
-  pub after : (l₀ l l' : Ledger A P) (xs : List Exchange) (m : Meaning) (a : Answer) → Through U L C X l₀ l xs → Through U L C X l l' (exchange m a ∷ []) → Through U L C X l₀ l' (xs ++ exchange m a ∷ [])
+  pub after : (l₀ l l' : Ledger A P gA gP) (xs : List Exchange) (m : Meaning) (a : Answer) → Through l₀ l xs → Through l l' (exchange m a ∷ []) → Through l₀ l' (xs ++ exchange m a ∷ [])
   after l₀ l l' xs m a t u =
-      let F = figures C X l₀ in
+      let F = figures l₀ in
       record {
         figured = u.figured ∙ t.figured;
         booked =
@@ -62,7 +81,7 @@ module _ {A P Lent : Type 0} (U : A → List Bool) (W : A → Type 0) (L : A →
             let now = u.law G (was.0 ++ j) was.1.0 in (
               now.0 ++ was.0,
               (
-                subst (λ (k : List Entry). Stands U C X G l' k) (sym (append_assoc now.0 was.0 j)) now.1.0,
+                subst (λ (k : List Entry). Stands G l' k) (sym (append_assoc now.0 was.0 j)) now.1.0,
                 exchanges_append now.0 was.0 ∙ ap (λ (ys : List Exchange). ys ++ exchanges now.0) was.1.1 ∙ ap (λ (ys : List Exchange). xs ++ ys) now.1.1,
               ),
             );

@@ -1,6 +1,8 @@
--- A run under way: the ledger is sound, and went through what was exchanged so far.
+-- A run under way: the ledger went through what was exchanged so far.
 use Rattle.std.proofs.Common.{◌≡◌, ℕ, ◌+◌, ◌<◌, ◌≤◌, Bool, List, [], ◌∷◌, ◌++◌, length, Some, Ok, Err, Option, Result, sym, ap, ◌∙◌, subst, arith}
 use Rattle.std.proofs.lemmas.Bool.{cond-true, cond-false, le-ltb, lt-ltb}
+use Rattle.pool.specs.declared.allocator.Allocator.{Ghosts as AllocatorMembers}
+use Rattle.costs.specs.declared.policy.CostPolicy.{Ghosts as PolicyMembers}
 use Rattle.orders.specs.declared.answer.Answer.{Answer}
 use Rattle.orders.specs.declared.order.Order.{Order}
 use Rattle.orders.specs.Meaning.{Meaning, meaning, name_place}
@@ -10,7 +12,7 @@ use Rattle.rules.specs.Answers.{answer}
 use Rattle.rules.specs.Journal.{book_after}
 use Rattle.rules.specs.Served.{Exchange, exchange, bytes_of}
 use Rattle.ledger.specs.declared.Ledger.{Ledger}
-use Rattle.ledger.specs.Parts.{book_of, figures, Sound}
+use Rattle.ledger.specs.Parts.{book_of, figures}
 use Rattle.ledger.specs.Serves.{Through}
 use Rattle.ledger.proofs.Serving.{through-none}
 use Rattle.reader.specs.Decode.{decode, order, fault, finished, ReadOne, Onward}
@@ -23,86 +25,81 @@ use Rattle.runner.specs.Steps.{One}
 use Rattle.runner.proofs.Ones.{after, short}
 use Rattle.runner.proofs.Going.{Going, start, one_more, Done, ended, at_the_end, at_a_fault, no_room}
 
-pub record Running {A P Lent : Type 0} (U : A → List Bool) (W : A → Type 0) (L : A → Lent) (C : P → ℕ → ℕ) (X : P → ℕ) (l₀ l : Ledger A P) (s out₀ : List ℕ) (p n w : ℕ) (out : List ℕ) : Type 0 where
-  pub sound : Sound U W C X l
+pub record Running {A P : Type 0} {gA : AllocatorMembers A} {gP : PolicyMembers P} (l₀ l : Ledger A P gA gP) (s out₀ : List ℕ) (p n w : ℕ) (out : List ℕ) : Type 0 where
   pub so_far : List Exchange
-  pub going : Going (figures C X l₀) s (book_of l₀) out₀ (book_of l) p n w out so_far
-  pub through : Through U L C X l₀ l so_far
+  pub going : Going (figures l₀) s (book_of l₀) out₀ (book_of l) p n w out so_far
+  pub through : Through l₀ l so_far
 
-module _ {A P Lent : Type 0} (U : A → List Bool) (W : A → Type 0) (L : A → Lent) (C : P → ℕ → ℕ) (X : P → ℕ) where
-  pub begins : (l : Ledger A P) (s out : List ℕ) → Sound U W C X l → Running U W L C X l l s out 0 0 0 out
-  begins l s out sound = record { sound = sound; so_far = []; going = start (figures C X l) s (book_of l) out; through = through-none U W L C X l }
+module _ {A P : Type 0} {gA : AllocatorMembers A} {gP : PolicyMembers P} where
+  pub begins : (l : Ledger A P gA gP) (s out : List ℕ) → Running l l s out 0 0 0 out
+  begins l s out = record { so_far = []; going = start (figures l) s (book_of l) out; through = through-none l }
 
-  pub goes_on : (l₀ l l' : Ledger A P) (s out₀ : List ℕ) (p n w : ℕ) (out : List ℕ) → Running U W L C X l₀ l s out₀ p n w out →
+  pub goes_on : (l₀ l l' : Ledger A P gA gP) (s out₀ : List ℕ) (p n w : ℕ) (out : List ℕ) → Running l₀ l s out₀ p n w out →
       (q : ℕ) (m : Meaning) (o : Option ℕ) (k : ℕ) (out' : List ℕ) → decode s p ≡ order m o q → p < q → w + 17 ≤ length out₀ →
-      One U W L C X l l' m (answer (figures C X l) (book_of l) m) → k ≡ length (answer_bytes (answer (figures C X l) (book_of l) m)) →
-      out' ≡ laid out w (answer_bytes (answer (figures C X l) (book_of l) m)) → Running U W L C X l₀ l' s out₀ q (n + 1) (w + k) out'
+      One l l' m (answer (figures l) (book_of l) m) → k ≡ length (answer_bytes (answer (figures l) (book_of l) m)) →
+      out' ≡ laid out w (answer_bytes (answer (figures l) (book_of l) m)) → Running l₀ l' s out₀ q (n + 1) (w + k) out'
   goes_on l₀ l l' s out₀ p n w out run q m o k out' e up room did ek eo =
-      let F = figures C X l₀ in
+      let F = figures l₀ in
       let b = book_of l in
-      let figured : answer (figures C X l) b m ≡ answer F b m = ap (λ (G : Figures). answer G b m) run.through.figured in
+      let figured : answer (figures l) b m ≡ answer F b m = ap (λ (G : Figures). answer G b m) run.through.figured in
       let booked : book_of l' ≡ book_after F b m (answer F b m) =
-      did.through.booked ∙ ap (λ (G : Figures). book_after G b m (answer (figures C X l) b m)) run.through.figured ∙ ap (book_after F b m) figured in
-      let done = subst (λ (a : Answer). Through U L C X l l' (exchange m a ∷ [])) figured did.through in
+      did.through.booked ∙ ap (λ (G : Figures). book_after G b m (answer (figures l) b m)) run.through.figured ∙ ap (book_after F b m) figured in
+      let done = subst (λ (a : Answer). Through l l' (exchange m a ∷ [])) figured did.through in
       record {
-        sound = did.sound;
         so_far = run.so_far ++ exchange m (answer F b m) ∷ [];
         going =
             one_more F s (book_of l₀) out₀ b p n w out run.so_far run.going q m o (book_of l') (w + k) out' e up room booked
             (ap (λ (x : ℕ). w + x) (ek ∙ ap (λ (a : Answer). length (answer_bytes a)) figured))
-            (subst (λ (a : Answer). length (answer_bytes a) ≤ 17) figured (short (answer (figures C X l) b m) did.proper))
+            (subst (λ (a : Answer). length (answer_bytes a) ≤ 17) figured (short (answer (figures l) b m) did.proper))
             (eo ∙ ap (λ (a : Answer). laid out w (answer_bytes a)) figured);
-        through = after U W L C X l₀ l l' run.so_far m (answer F b m) run.through done;
+        through = after l₀ l l' run.so_far m (answer F b m) run.through done;
       }
 
-  pub record Finished (l₀ l : Ledger A P) (s out₀ out : List ℕ) (r : Ended) : Type 0 where
-    pub sound : Sound U W C X l
-    pub ended_so : r ≡ end_of (ran (figures C X l₀) s (length out₀) (book_of l₀))
-    pub bytes_so : out ≡ laid out₀ 0 (bytes_of (exchanges_in (ran (figures C X l₀) s (length out₀) (book_of l₀))))
+  pub record Finished (l₀ l : Ledger A P gA gP) (s out₀ out : List ℕ) (r : Ended) : Type 0 where
+    pub ended_so : r ≡ end_of (ran (figures l₀) s (length out₀) (book_of l₀))
+    pub bytes_so : out ≡ laid out₀ 0 (bytes_of (exchanges_in (ran (figures l₀) s (length out₀) (book_of l₀))))
     pub within_so : r.written ≤ length out₀
-    pub through : Through U L C X l₀ l (exchanges_in (ran (figures C X l₀) s (length out₀) (book_of l₀)))
+    pub through : Through l₀ l (exchanges_in (ran (figures l₀) s (length out₀) (book_of l₀)))
 
-  pub finish : (l₀ l : Ledger A P) (s out₀ : List ℕ) (p n w : ℕ) (out : List ℕ) (run : Running U W L C X l₀ l s out₀ p n w out) (r : Ended) →
-      Done (figures C X l₀) s (book_of l₀) out₀ out run.so_far r → length s ≤ 4096 → Finished l₀ l s out₀ out r
+  pub finish : (l₀ l : Ledger A P gA gP) (s out₀ : List ℕ) (p n w : ℕ) (out : List ℕ) (run : Running l₀ l s out₀ p n w out) (r : Ended) →
+      Done (figures l₀) s (book_of l₀) out₀ out run.so_far r → length s ≤ 4096 → Finished l₀ l s out₀ out r
   finish l₀ l s out₀ p n w out run r d small =
-      let e : ran_from (length s + 1) (figures C X l₀) s (length out₀) (book_of l₀) 0 0 ≡ ran (figures C X l₀) s (length out₀) (book_of l₀) =
+      let e : ran_from (length s + 1) (figures l₀) s (length out₀) (book_of l₀) 0 0 ≡ ran (figures l₀) s (length out₀) (book_of l₀) =
       sym (cond-false _ _ _ (le-ltb 4096 (length s) small)) in
       let x = d.exchanged_so ∙ ap exchanges_in e in
       record {
-        sound = run.sound;
         ended_so = d.ended_so ∙ ap end_of e;
         within_so = d.within_so;
         bytes_so = d.laid_so ∙ ap (λ (ys : List Exchange). laid out₀ 0 (bytes_of ys)) x;
-        through = subst (λ (ys : List Exchange). Through U L C X l₀ l ys) x run.through;
+        through = subst (λ (ys : List Exchange). Through l₀ l ys) x run.through;
       }
 
-  pub too_long : (l : Ledger A P) (s out : List ℕ) → Sound U W C X l → 4096 < length s → Finished l l s out out (ended (Err TooLong) 0 0)
-  too_long l s out sound long =
-      let e : ends (Err TooLong) ≡ ran (figures C X l) s (length out) (book_of l) = sym (cond-true _ _ _ (lt-ltb 4096 (length s) long)) in
+  pub too_long : (l : Ledger A P gA gP) (s out : List ℕ) → 4096 < length s → Finished l l s out out (ended (Err TooLong) 0 0)
+  too_long l s out long =
+      let e : ends (Err TooLong) ≡ ran (figures l) s (length out) (book_of l) = sym (cond-true _ _ _ (lt-ltb 4096 (length s) long)) in
       record {
-        sound = sound;
         ended_so = ap end_of e;
         within_so = omega arith;
         bytes_so = ap (λ (r : Ran). laid out 0 (bytes_of (exchanges_in r))) e;
-        through = subst (λ (r : Ran). Through U L C X l l (exchanges_in r)) e (through-none U W L C X l);
+        through = subst (λ (r : Ran). Through l l (exchanges_in r)) e (through-none l);
       }
 
   -- a run at the place p, whose reader stands over the bytes rs
-  module _ (l₀ l : Ledger A P) (s rs out₀ : List ℕ) (p place n w : ℕ) (out : List ℕ) (same : rs ≡ s) (here : place ≡ p) (small : length s ≤ 4096)
-      (run : Running U W L C X l₀ l s out₀ p n w out) where
-    at_place : (stop : ℕ → Result ℕ ScriptFault) → Done (figures C X l₀) s (book_of l₀) out₀ out run.so_far (ended (stop p) n w) → Finished l₀ l s out₀ out (ended (stop place) n w)
+  module _ (l₀ l : Ledger A P gA gP) (s rs out₀ : List ℕ) (p place n w : ℕ) (out : List ℕ) (same : rs ≡ s) (here : place ≡ p) (small : length s ≤ 4096)
+      (run : Running l₀ l s out₀ p n w out) where
+    at_place : (stop : ℕ → Result ℕ ScriptFault) → Done (figures l₀) s (book_of l₀) out₀ out run.so_far (ended (stop p) n w) → Finished l₀ l s out₀ out (ended (stop place) n w)
     at_place stop d =
         finish l₀ l s out₀ p n w out run (ended (stop place) n w)
-        (subst (λ (q : ℕ). Done (figures C X l₀) s (book_of l₀) out₀ out run.so_far (ended (stop q) n w)) (sym here) d) small
+        (subst (λ (q : ℕ). Done (figures l₀) s (book_of l₀) out₀ out run.so_far (ended (stop q) n w)) (sym here) d) small
 
     pub ends_there : decode rs p ≡ finished → Finished l₀ l s out₀ out (ended (Ok place) n w)
     ends_there e =
-        at_place (λ (q : ℕ). Ok q) (at_the_end (figures C X l₀) s (book_of l₀) out₀ (book_of l) p n w out run.so_far run.going (subst (λ (x : List ℕ). decode x p ≡ finished) same e))
+        at_place (λ (q : ℕ). Ok q) (at_the_end (figures l₀) s (book_of l₀) out₀ (book_of l) p n w out run.so_far run.going (subst (λ (x : List ℕ). decode x p ≡ finished) same e))
 
     pub faults_there : (f : ReadFault) → decode rs p ≡ fault f → Finished l₀ l s out₀ out (ended (Err (Unreadable f)) n w)
     faults_there f e =
         at_place (λ (q : ℕ). Err (Unreadable f))
-        (at_a_fault (figures C X l₀) s (book_of l₀) out₀ (book_of l) p n w out run.so_far run.going f (subst (λ (x : List ℕ). decode x p ≡ fault f) same e))
+        (at_a_fault (figures l₀) s (book_of l₀) out₀ (book_of l) p n w out run.so_far run.going f (subst (λ (x : List ℕ). decode x p ≡ fault f) same e))
 
     -- an order o was read, up to the place q
     module _ (next : Option Order) (o : Order) (q : ℕ) (is : next ≡ Some o) (value : ReadOne rs p q (Ok next)) where
@@ -113,13 +110,13 @@ module _ {A P Lent : Type 0} (U : A → List Bool) (W : A → Type 0) (L : A →
       pub lacks_room : length out₀ < w + 17 → Finished l₀ l s out₀ out (ended (Err (NoRoom place)) n w)
       lacks_room less =
           at_place (λ (x : ℕ). Err (NoRoom x))
-          (no_room (figures C X l₀) s (book_of l₀) out₀ (book_of l) p n w out run.so_far run.going q (meaning o) (name_place o) read_there less)
+          (no_room (figures l₀) s (book_of l₀) out₀ (book_of l) p n w out run.so_far run.going q (meaning o) (name_place o) read_there less)
 
       pub ahead : Onward rs p q (Ok next) → (p < q) × (q ≤ length s)
       ahead on = subst (λ (x : List ℕ). (p < q) × (q ≤ length x)) same (subst (λ (x : Option Order). Onward rs p q (Ok x)) is on)
 
-      pub goes : (l' : Ledger A P) (k : ℕ) (out' : List ℕ) → Onward rs p q (Ok next) → w + 17 ≤ length out₀ →
-          One U W L C X l l' (meaning o) (answer (figures C X l) (book_of l) (meaning o)) → k ≡ length (answer_bytes (answer (figures C X l) (book_of l) (meaning o))) →
-          out' ≡ laid out w (answer_bytes (answer (figures C X l) (book_of l) (meaning o))) → Running U W L C X l₀ l' s out₀ q (n + 1) (w + k) out'
+      pub goes : (l' : Ledger A P gA gP) (k : ℕ) (out' : List ℕ) → Onward rs p q (Ok next) → w + 17 ≤ length out₀ →
+          One l l' (meaning o) (answer (figures l) (book_of l) (meaning o)) → k ≡ length (answer_bytes (answer (figures l) (book_of l) (meaning o))) →
+          out' ≡ laid out w (answer_bytes (answer (figures l) (book_of l) (meaning o))) → Running l₀ l' s out₀ q (n + 1) (w + k) out'
       goes l' k out' on room did ek eo =
           goes_on l₀ l l' s out₀ p n w out run q (meaning o) (name_place o) k out' read_there (ahead on).0 room did ek eo

@@ -4,7 +4,7 @@ ghost use Rattle.orders.specs.Layout.{answer_bytes, laid};
 ghost use Rattle.orders.specs.Meaning.{meaning};
 ghost use Rattle.rules.specs.Answers.{answer as answer_to};
 ghost use Rattle.rules.specs.Served.{bytes_of};
-ghost use Rattle.ledger.specs.Parts.{book_of, figures, Sound};
+ghost use Rattle.ledger.specs.Parts.{book_of, figures};
 ghost use Rattle.ledger.specs.Serves.{Through};
 ghost use Rattle.runner.specs.Faults.{answer_at, AtPlace};
 ghost use Rattle.runner.specs.Runs.{end_of, exchanges_in, ran};
@@ -32,8 +32,7 @@ fn obey_at<A: Allocator, P: CostPolicy>(
     order: Order<'_>,
     place: usize,
 ) -> Result<Reply, ScriptFault>
-    requires { Sound A.Allocator.units A.Allocator.wellmade P.CostPolicy.cost P.CostPolicy.worst ledger.old }
-    ensures one { One A.Allocator.units A.Allocator.wellmade A.Allocator.lent P.CostPolicy.cost P.CostPolicy.worst ledger.old ledger.new (meaning order.entry) (answer_at result) }
+    ensures one { One ledger.old ledger.new (meaning order.entry) (answer_at result) }
     ensures place { AtPlace (Some place) result }
 {
     ledger
@@ -46,7 +45,7 @@ fn answer(res: Result<Reply, ScriptFault>) -> Answer
     ensures { result ≡ answer_at res }
 {
     match res {
-        Ok(reply) => reply.answer(),
+        Ok(reply) => Answer::from(reply),
         Err(fault) => Answer::from(fault),
     }
 }
@@ -59,11 +58,10 @@ fn answer_order<A: Allocator, P: CostPolicy>(
     answers: &mut [u8],
     written: usize,
 ) -> usize
-    requires sound { Sound A.Allocator.units A.Allocator.wellmade P.CostPolicy.cost P.CostPolicy.worst ledger.old }
-    requires room { written + 17 ≤ length answers.old }
-    ensures one { One A.Allocator.units A.Allocator.wellmade A.Allocator.lent P.CostPolicy.cost P.CostPolicy.worst ledger.old ledger.new (meaning order.entry) (answer_to (figures P.CostPolicy.cost P.CostPolicy.worst ledger.old) (book_of ledger.old) (meaning order.entry)) }
-    ensures count { result ≡ length (answer_bytes (answer_to (figures P.CostPolicy.cost P.CostPolicy.worst ledger.old) (book_of ledger.old) (meaning order.entry))) }
-    ensures bytes { answers.new ≡ laid answers.old written (answer_bytes (answer_to (figures P.CostPolicy.cost P.CostPolicy.worst ledger.old) (book_of ledger.old) (meaning order.entry))) }
+    requires { written + 17 ≤ length answers.old }
+    ensures one { One ledger.old ledger.new (meaning order.entry) (answer_to (figures ledger.old) (book_of ledger.old) (meaning order.entry)) }
+    ensures count { result ≡ length (answer_bytes (answer_to (figures ledger.old) (book_of ledger.old) (meaning order.entry))) }
+    ensures bytes { answers.new ≡ laid answers.old written (answer_bytes (answer_to (figures ledger.old) (book_of ledger.old) (meaning order.entry))) }
 {
     let said = answer(obey_at(ledger, order, place));
     let Ok(count) = said.write_to(answers, written) else {
@@ -80,12 +78,10 @@ pub fn run<A: Allocator, P: CostPolicy>(
     script: &[u8],
     answers: &mut [u8],
 ) -> Ended
-    requires { Sound A.Allocator.units A.Allocator.wellmade P.CostPolicy.cost P.CostPolicy.worst ledger.old }
-    ensures sound { Sound A.Allocator.units A.Allocator.wellmade P.CostPolicy.cost P.CostPolicy.worst ledger.new }
-    ensures ended { result ≡ end_of (ran (figures P.CostPolicy.cost P.CostPolicy.worst ledger.old) script.now (length answers.old) (book_of ledger.old)) }
-    ensures bytes { answers.new ≡ laid answers.old 0 (bytes_of (exchanges_in (ran (figures P.CostPolicy.cost P.CostPolicy.worst ledger.old) script.now (length answers.old) (book_of ledger.old)))) }
+    ensures ended { result ≡ end_of (ran (figures ledger.old) script.now (length answers.old) (book_of ledger.old)) }
+    ensures bytes { answers.new ≡ laid answers.old 0 (bytes_of (exchanges_in (ran (figures ledger.old) script.now (length answers.old) (book_of ledger.old)))) }
     ensures within { result.written ≤ length answers.old }
-    ensures through { Through A.Allocator.units A.Allocator.lent P.CostPolicy.cost P.CostPolicy.worst ledger.old ledger.new (exchanges_in (ran (figures P.CostPolicy.cost P.CostPolicy.worst ledger.old) script.now (length answers.old) (book_of ledger.old))) }
+    ensures through { Through ledger.old ledger.new (exchanges_in (ran (figures ledger.old) script.now (length answers.old) (book_of ledger.old))) }
 {
     if script.len() > LONGEST_SCRIPT {
         return Ended {

@@ -31,9 +31,7 @@ mod tests {
         policy: P,
         orders: &[Order<'_>],
         answers: &mut [Answer],
-    ) -> Result<[bool; 8], ServeFault>
-        requires { A.Allocator.wellmade pool }
-    {
+    ) -> Result<[bool; 8], ServeFault> {
         let ledger = serve(pool, policy, 4, orders, answers).map_err(|unserved| unserved.fault)?;
         let (pool, _) = ledger.close();
         Ok([0, 1, 2, 3, 4, 5, 6, 7].map(|unit| pool.is_out(unit)))

@@ -2,6 +2,8 @@
 use Rattle.std.proofs.Common.{◌≡◌, ℕ, zero, suc, ◌+◌, ◌<◌, ◌≤◌, Bool, false, List, [], ◌++◌, length, get_or, replicate, Ok, sym, refl, ap, ◌∙◌, subst, arith}
 use Rattle.std.proofs.lemmas.List.{append-nil, length-replicate, replicate-append-replicate}
 use Rattle.std.proofs.lemmas.Bool.{cond-true, cond-false, lt-ltb}
+use Rattle.pool.specs.declared.allocator.Allocator.{Ghosts as AllocatorMembers}
+use Rattle.costs.specs.declared.policy.CostPolicy.{Ghosts as PolicyMembers}
 use Rattle.costs.specs.Costs.{largest, copies_cost, parity_cost}
 use Rattle.orders.specs.Layout.{laid}
 use Rattle.rules.specs.Figures.{Figures}
@@ -9,7 +11,7 @@ use Rattle.rules.specs.Book.{Book, fresh}
 use Rattle.rules.specs.Standing.{Standing}
 use Rattle.rules.specs.Served.{bytes_of, book_then, exchanges}
 use Rattle.ledger.specs.declared.Ledger.{Ledger}
-use Rattle.ledger.specs.Parts.{book_of, holders_of, pool_of, figures, Stands}
+use Rattle.ledger.specs.Parts.{book_of, holders_of, units_of, figures, Stands}
 use Rattle.ledger.specs.Makes.{Made, any_out, check_answer}
 use Rattle.ledger.specs.Serves.{Through, planned}
 use Rattle.ledger.proofs.Outs.{none_out}
@@ -26,20 +28,20 @@ get_or-replicate_false zero k = refl
 get_or-replicate_false (suc n) zero = refl
 get_or-replicate_false (suc n) (suc k) = get_or-replicate_false n k
 
-module _ {A P Lent : Type 0} (U : A → List Bool) (W : A → Type 0) (L : A → Lent) (C : P → ℕ → ℕ) (X : P → ℕ) where
-  pub run_with : (l₁ l : Ledger A P) (pool : A) (policy : P) (slop : ℕ) (s out after : List ℕ) (e : Ended) → Made U pool policy slop l₁ → Stands U C X (figures C X l₁) l₁ [] →
-      e ≡ end_of (ran (figures C X l₁) s (length out) (book_of l₁)) → after ≡ laid out 0 (bytes_of (exchanges_in (ran (figures C X l₁) s (length out) (book_of l₁)))) → e.written ≤ length out →
-      Through U L C X l₁ l (exchanges_in (ran (figures C X l₁) s (length out) (book_of l₁))) →
-      RunWith (planned C X (U pool) policy slop) s out after (U (pool_of l)) e
+module _ {A P : Type 0} {gA : AllocatorMembers A} {gP : PolicyMembers P} where
+  pub run_with : (l₁ l : Ledger A P gA gP) (pool : A) (policy : P) (slop : ℕ) (s out after : List ℕ) (e : Ended) → Made pool policy slop l₁ → Stands (figures l₁) l₁ [] →
+      e ≡ end_of (ran (figures l₁) s (length out) (book_of l₁)) → after ≡ laid out 0 (bytes_of (exchanges_in (ran (figures l₁) s (length out) (book_of l₁)))) → e.written ≤ length out →
+      Through l₁ l (exchanges_in (ran (figures l₁) s (length out) (book_of l₁))) →
+      RunWith (planned gP (gA.units pool) policy slop) s out after (units_of l) e
   run_with l₁ l pool policy slop s out after e made stands ended bytes within t =
-      let F = planned C X (U pool) policy slop in
-      let is : figures C X l₁ ≡ F = planned-is U W L C X l₁ pool policy slop made in
-      let same : ran (figures C X l₁) s (length out) (book_of l₁) ≡ ran F s (length out) fresh =
+      let F = planned gP (gA.units pool) policy slop in
+      let is : figures l₁ ≡ F = planned-is l₁ pool policy slop made in
+      let same : ran (figures l₁) s (length out) (book_of l₁) ≡ ran F s (length out) fresh =
       ap (λ (G : Figures). ran G s (length out) (book_of l₁)) is ∙ ap (λ (b : Book). ran F s (length out) b) made.book_is in
       let xs = exchanges_in (ran F s (length out) fresh) in
-      let grown = t.law F [] (subst (λ (G : Figures). Stands U C X G l₁ []) is stands) in
+      let grown = t.law F [] (subst (λ (G : Figures). Stands G l₁ []) is stands) in
       let booked : book_of l ≡ book_then F fresh xs =
-      t.booked ∙ ap (λ (r : Run). book_then (figures C X l₁) (book_of l₁) (exchanges_in r)) same ∙ ap (λ (G : Figures). book_then G (book_of l₁) xs) is
+      t.booked ∙ ap (λ (r : Run). book_then (figures l₁) (book_of l₁) (exchanges_in r)) same ∙ ap (λ (G : Figures). book_then G (book_of l₁) xs) is
       ∙ ap (λ (b : Book). book_then F b xs) made.book_is in
       record {
         ended = ended ∙ ap end_of same;
@@ -47,7 +49,7 @@ module _ {A P Lent : Type 0} (U : A → List Bool) (W : A → Type 0) (L : A →
         bytes = bytes ∙ ap (λ (r : Run). laid out 0 (bytes_of (exchanges_in r))) same;
         journal = grown.0 ++ [];
         holders = holders_of l;
-        stands = subst (λ (b : Book). Standing F b (holders_of l) (U (pool_of l)) (grown.0 ++ [])) booked grown.1.0.standing;
+        stands = subst (λ (b : Book). Standing F b (holders_of l) (units_of l) (grown.0 ++ [])) booked grown.1.0.standing;
         exactly = ap exchanges (append-nil grown.0) ∙ grown.1.1 ∙ ap exchanges_in same;
       }
 

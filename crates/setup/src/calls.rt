@@ -30,10 +30,8 @@ fn run_over<A: Allocator, P: CostPolicy + Drop>(
     script: &[u8],
     answers: &mut [u8],
 ) -> (Ended, A)
-    requires wellmade { A.Allocator.wellmade pool }
-    requires checked { check_answer slop (A.Allocator.units pool) ≡ Ok tt }
-    ensures ran { RunWith (planned P.CostPolicy.cost P.CostPolicy.worst (A.Allocator.units pool) policy slop) script.now answers.old answers.new (A.Allocator.units result.1) result.0 }
-    ensures keeps { A.Allocator.wellmade result.1 }
+    requires { check_answer slop (A.Allocator.units pool) ≡ Ok tt }
+    ensures ran { RunWith (planned P.CostPolicy (A.Allocator.units pool) policy slop) script.now answers.old answers.new (A.Allocator.units result.1) result.0 }
     ensures lent { A.Allocator.lent result.1 ≡ A.Allocator.lent pool }
 {
     let mut ledger = Ledger::make(pool, policy, slop);
@@ -50,11 +48,9 @@ fn run_under<A: Allocator>(
     script: &[u8],
     answers: &mut [u8],
 ) -> (Ended, A)
-    requires wellmade { A.Allocator.wellmade pool }
     requires checked { check_answer slop (A.Allocator.units pool) ≡ Ok tt }
     requires fits { SchemeFits scheme }
     ensures ran { RunWith (plan (length (A.Allocator.units pool)) slop scheme) script.now answers.old answers.new (A.Allocator.units result.1) result.0 }
-    ensures keeps { A.Allocator.wellmade result.1 }
     ensures lent { A.Allocator.lent result.1 ≡ A.Allocator.lent pool }
 {
     match scheme {

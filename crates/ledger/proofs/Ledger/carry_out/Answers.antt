@@ -1,87 +1,121 @@
-use Rattle.std.proofs.Common.{◌≡◌, ℕ, Bool, List, sym, subst}
-use Rattle.orders.specs.declared.answer.Answer.{Answer}
-use Rattle.orders.specs.declared.order.Order.{Order}
-use Rattle.orders.specs.Meaning.{meaning}
-use Rattle.ledger.specs.declared.Ledger.{Ledger}
-use Rattle.ledger.specs.Parts.{Did}
+use Rattle.std.proofs.Common.{rules, refl}
+use Rattle.orders.specs.Meaning.{folder, volume, quota, reserve, begin, hold_writes, hold_frees, assign, abort, commit, tell}
+use Rattle.rules.specs.Theorems.{Fits}
+use Rattle.ledger.proofs.Laws as laws
 use Rattle.ledger.proofs.Ledger.carry_out.Goals as goal
 
--- the order, and the variant that it is
-as_order : {A P Lent : Type 0} (U : A → List Bool) (W : A → Type 0) (L : A → Lent) (C : P → ℕ → ℕ) (X : P → ℕ) (l l' : Ledger A P) (o x : Order) (a : Answer) → o ≡ x →
-    Did U W L C X l l' (meaning x) a → Did U W L C X l l' (meaning o) a
-as_order U W L C X l l' o x a e d = subst (λ (y : Order). Did U W L C X l l' (meaning y) a) (sym e) d
-
-pub returns-in-Resize : goal.returns-in-Resize
-returns-in-Resize g c =
-    as_order g.A.Allocator.units g.A.Allocator.wellmade g.A.Allocator.lent g.P.CostPolicy.cost g.P.CostPolicy.worst
-    c.args.self.now c.resize.new.self c.args.order _ _ c.in-Resize.is c.resize.ensures
-
-pub returns-in-Turn : goal.returns-in-Turn
-returns-in-Turn g c =
-    as_order g.A.Allocator.units g.A.Allocator.wellmade g.A.Allocator.lent g.P.CostPolicy.cost g.P.CostPolicy.worst
-    c.args.self.now c.turn.new.self c.args.order _ _ c.in-Turn.is c.turn.ensures
+pub invariant_of-self : goal.invariant_of-self
+invariant_of-self g c =
+    let fits : Fits (folder c.in-Folder.parent c.bytes_of.result) = search rules in
+    record { sound = laws.kept c.args.self.now _ _ _ _ _ (laws.plain c.args.self.now c.folder.new.self (folder c.in-Folder.parent c.bytes_of.result) _ fits c.folder.ensures refl refl refl) }
 
 pub returns-in-Folder : goal.returns-in-Folder
 returns-in-Folder g c =
-    as_order g.A.Allocator.units g.A.Allocator.wellmade g.A.Allocator.lent g.P.CostPolicy.cost g.P.CostPolicy.worst
-    c.args.self.now c.folder.new.self c.args.order _ _ c.in-Folder.is c.folder.ensures
+    let fits : Fits (folder c.in-Folder.parent c.bytes_of.result) = search rules in
+    let did = laws.plain c.args.self.now c.folder.new.self (folder c.in-Folder.parent c.bytes_of.result) _ fits c.folder.ensures refl refl refl in
+    search rules
+
+pub invariant_of-self-in-Volume : goal.invariant_of-self-in-Volume
+invariant_of-self-in-Volume g c =
+    let fits : Fits (volume c.in-Volume.parent c.in-Volume.records c.bytes_of-in-Volume.result) = search rules in
+    record { sound = laws.kept c.args.self.now _ _ _ _ _ (laws.plain c.args.self.now c.volume.new.self (volume c.in-Volume.parent c.in-Volume.records c.bytes_of-in-Volume.result) _ fits c.volume.ensures refl refl refl) }
 
 pub returns-in-Volume : goal.returns-in-Volume
 returns-in-Volume g c =
-    as_order g.A.Allocator.units g.A.Allocator.wellmade g.A.Allocator.lent g.P.CostPolicy.cost g.P.CostPolicy.worst
-    c.args.self.now c.volume.new.self c.args.order _ _ c.in-Volume.is c.volume.ensures
+    let fits : Fits (volume c.in-Volume.parent c.in-Volume.records c.bytes_of-in-Volume.result) = search rules in
+    let did = laws.plain c.args.self.now c.volume.new.self (volume c.in-Volume.parent c.in-Volume.records c.bytes_of-in-Volume.result) _ fits c.volume.ensures refl refl refl in
+    search rules
+
+pub invariant_of-self-in-Quota : goal.invariant_of-self-in-Quota
+invariant_of-self-in-Quota g c =
+    let fits : Fits (quota c.in-Quota.dataset c.in-Quota.units) = search rules in
+    record { sound = laws.kept c.args.self.now _ _ _ _ _ (laws.plain c.args.self.now c.quota.new.self (quota c.in-Quota.dataset c.in-Quota.units) _ fits c.quota.ensures refl refl refl) }
 
 pub returns-in-Quota : goal.returns-in-Quota
 returns-in-Quota g c =
-    as_order g.A.Allocator.units g.A.Allocator.wellmade g.A.Allocator.lent g.P.CostPolicy.cost g.P.CostPolicy.worst
-    c.args.self.now c.quota.new.self c.args.order _ _ c.in-Quota.is c.quota.ensures
+    let fits : Fits (quota c.in-Quota.dataset c.in-Quota.units) = search rules in
+    let did = laws.plain c.args.self.now c.quota.new.self (quota c.in-Quota.dataset c.in-Quota.units) _ fits c.quota.ensures refl refl refl in
+    search rules
+
+pub invariant_of-self-in-Reserve : goal.invariant_of-self-in-Reserve
+invariant_of-self-in-Reserve g c =
+    let fits : Fits (reserve c.in-Reserve.dataset c.in-Reserve.units) = search rules in
+    record { sound = laws.kept c.args.self.now _ _ _ _ _ (laws.plain c.args.self.now c.reserve.new.self (reserve c.in-Reserve.dataset c.in-Reserve.units) _ fits c.reserve.ensures refl refl refl) }
 
 pub returns-in-Reserve : goal.returns-in-Reserve
 returns-in-Reserve g c =
-    as_order g.A.Allocator.units g.A.Allocator.wellmade g.A.Allocator.lent g.P.CostPolicy.cost g.P.CostPolicy.worst
-    c.args.self.now c.reserve.new.self c.args.order _ _ c.in-Reserve.is c.reserve.ensures
+    let fits : Fits (reserve c.in-Reserve.dataset c.in-Reserve.units) = search rules in
+    let did = laws.plain c.args.self.now c.reserve.new.self (reserve c.in-Reserve.dataset c.in-Reserve.units) _ fits c.reserve.ensures refl refl refl in
+    search rules
+
+pub invariant_of-self-in-Begin : goal.invariant_of-self-in-Begin
+invariant_of-self-in-Begin g c =
+    let fits : Fits (begin c.in-Begin.transaction c.in-Begin.volume) = search rules in
+    record { sound = laws.kept c.args.self.now _ _ _ _ _ (laws.plain c.args.self.now c.begin.new.self (begin c.in-Begin.transaction c.in-Begin.volume) _ fits c.begin.ensures refl refl refl) }
 
 pub returns-in-Begin : goal.returns-in-Begin
 returns-in-Begin g c =
-    as_order g.A.Allocator.units g.A.Allocator.wellmade g.A.Allocator.lent g.P.CostPolicy.cost g.P.CostPolicy.worst
-    c.args.self.now c.begin.new.self c.args.order _ _ c.in-Begin.is c.begin.ensures
+    let fits : Fits (begin c.in-Begin.transaction c.in-Begin.volume) = search rules in
+    let did = laws.plain c.args.self.now c.begin.new.self (begin c.in-Begin.transaction c.in-Begin.volume) _ fits c.begin.ensures refl refl refl in
+    search rules
+
+pub invariant_of-self-in-HoldWrites : goal.invariant_of-self-in-HoldWrites
+invariant_of-self-in-HoldWrites g c =
+    let fits : Fits (hold_writes c.in-HoldWrites.transaction c.in-HoldWrites.count) = search rules in
+    record { sound = laws.kept c.args.self.now _ _ _ _ _ (laws.plain c.args.self.now c.hold_writes.new.self (hold_writes c.in-HoldWrites.transaction c.in-HoldWrites.count) _ fits c.hold_writes.ensures refl refl refl) }
 
 pub returns-in-HoldWrites : goal.returns-in-HoldWrites
 returns-in-HoldWrites g c =
-    as_order g.A.Allocator.units g.A.Allocator.wellmade g.A.Allocator.lent g.P.CostPolicy.cost g.P.CostPolicy.worst
-    c.args.self.now c.hold_writes.new.self c.args.order _ _ c.in-HoldWrites.is c.hold_writes.ensures
+    let fits : Fits (hold_writes c.in-HoldWrites.transaction c.in-HoldWrites.count) = search rules in
+    let did = laws.plain c.args.self.now c.hold_writes.new.self (hold_writes c.in-HoldWrites.transaction c.in-HoldWrites.count) _ fits c.hold_writes.ensures refl refl refl in
+    search rules
+
+pub invariant_of-self-in-HoldFrees : goal.invariant_of-self-in-HoldFrees
+invariant_of-self-in-HoldFrees g c =
+    let fits : Fits (hold_frees c.in-HoldFrees.transaction c.in-HoldFrees.count) = search rules in
+    record { sound = laws.kept c.args.self.now _ _ _ _ _ (laws.plain c.args.self.now c.hold_frees.new.self (hold_frees c.in-HoldFrees.transaction c.in-HoldFrees.count) _ fits c.hold_frees.ensures refl refl refl) }
 
 pub returns-in-HoldFrees : goal.returns-in-HoldFrees
 returns-in-HoldFrees g c =
-    as_order g.A.Allocator.units g.A.Allocator.wellmade g.A.Allocator.lent g.P.CostPolicy.cost g.P.CostPolicy.worst
-    c.args.self.now c.hold_frees.new.self c.args.order _ _ c.in-HoldFrees.is c.hold_frees.ensures
+    let fits : Fits (hold_frees c.in-HoldFrees.transaction c.in-HoldFrees.count) = search rules in
+    let did = laws.plain c.args.self.now c.hold_frees.new.self (hold_frees c.in-HoldFrees.transaction c.in-HoldFrees.count) _ fits c.hold_frees.ensures refl refl refl in
+    search rules
+
+pub invariant_of-self-in-Assign : goal.invariant_of-self-in-Assign
+invariant_of-self-in-Assign g c =
+    let fits : Fits (assign c.in-Assign.transaction) = search rules in
+    record { sound = laws.kept c.args.self.now _ _ _ _ _ (laws.plain c.args.self.now c.assign.new.self (assign c.in-Assign.transaction) _ fits c.assign.ensures refl refl refl) }
 
 pub returns-in-Assign : goal.returns-in-Assign
 returns-in-Assign g c =
-    as_order g.A.Allocator.units g.A.Allocator.wellmade g.A.Allocator.lent g.P.CostPolicy.cost g.P.CostPolicy.worst
-    c.args.self.now c.assign.new.self c.args.order _ _ c.in-Assign.is c.assign.ensures
+    let fits : Fits (assign c.in-Assign.transaction) = search rules in
+    let did = laws.plain c.args.self.now c.assign.new.self (assign c.in-Assign.transaction) _ fits c.assign.ensures refl refl refl in
+    search rules
+
+pub invariant_of-self-in-Abort : goal.invariant_of-self-in-Abort
+invariant_of-self-in-Abort g c =
+    let fits : Fits (abort c.in-Abort.transaction) = search rules in
+    record { sound = laws.kept c.args.self.now _ _ _ _ _ (laws.plain c.args.self.now c.abort.new.self (abort c.in-Abort.transaction) _ fits c.abort.ensures refl refl refl) }
 
 pub returns-in-Abort : goal.returns-in-Abort
 returns-in-Abort g c =
-    as_order g.A.Allocator.units g.A.Allocator.wellmade g.A.Allocator.lent g.P.CostPolicy.cost g.P.CostPolicy.worst
-    c.args.self.now c.abort.new.self c.args.order _ _ c.in-Abort.is c.abort.ensures
+    let fits : Fits (abort c.in-Abort.transaction) = search rules in
+    let did = laws.plain c.args.self.now c.abort.new.self (abort c.in-Abort.transaction) _ fits c.abort.ensures refl refl refl in
+    search rules
 
-pub returns-in-Write : goal.returns-in-Write
-returns-in-Write g c =
-    as_order g.A.Allocator.units g.A.Allocator.wellmade g.A.Allocator.lent g.P.CostPolicy.cost g.P.CostPolicy.worst
-    c.args.self.now c.write.new.self c.args.order _ _ c.in-Write.is c.write.ensures
-
-pub returns-in-Free : goal.returns-in-Free
-returns-in-Free g c =
-    as_order g.A.Allocator.units g.A.Allocator.wellmade g.A.Allocator.lent g.P.CostPolicy.cost g.P.CostPolicy.worst
-    c.args.self.now c.free.new.self c.args.order _ _ c.in-Free.is c.free.ensures
+pub invariant_of-self-in-Commit : goal.invariant_of-self-in-Commit
+invariant_of-self-in-Commit g c =
+    let fits : Fits (commit c.in-Commit.transaction) = search rules in
+    record { sound = laws.kept c.args.self.now _ _ _ _ _ (laws.plain c.args.self.now c.commit.new.self (commit c.in-Commit.transaction) _ fits c.commit.ensures refl refl refl) }
 
 pub returns-in-Commit : goal.returns-in-Commit
 returns-in-Commit g c =
-    as_order g.A.Allocator.units g.A.Allocator.wellmade g.A.Allocator.lent g.P.CostPolicy.cost g.P.CostPolicy.worst
-    c.args.self.now c.commit.new.self c.args.order _ _ c.in-Commit.is c.commit.ensures
+    let fits : Fits (commit c.in-Commit.transaction) = search rules in
+    let did = laws.plain c.args.self.now c.commit.new.self (commit c.in-Commit.transaction) _ fits c.commit.ensures refl refl refl in
+    search rules
 
 pub returns-in-Tell : goal.returns-in-Tell
 returns-in-Tell g c =
-    as_order g.A.Allocator.units g.A.Allocator.wellmade g.A.Allocator.lent g.P.CostPolicy.cost g.P.CostPolicy.worst
-    c.args.self.now c.args.self.now c.args.order _ _ c.in-Tell.is c.tell.ensures
+    let fits : Fits (tell c.in-Tell.dataset) = search rules in
+    let did = laws.plain c.args.self.now c.args.self.now.tally (tell c.in-Tell.dataset) _ fits c.tell.ensures refl refl refl in
+    search rules

@@ -5,23 +5,17 @@ use Rattle.ledger.proofs.Ledger.obey.Goals as goal
 
 pub returns : goal.returns
 returns g c =
-    let U = g.A.Allocator.units in
-    let W = g.A.Allocator.wellmade in
-    let L = g.A.Allocator.lent in
-    let C = g.P.CostPolicy.cost in
-    let X = g.P.CostPolicy.worst in
     let l = c.args.self.now in
     let l' = c.carry_out.new.self in
     let m = meaning c.args.order in
     let a = answer_of c.carry_out.result in
     let d = c.carry_out.ensures in
     record {
-      sound = laws.sound' U W L C X l l' m a c.requires d;
-      law = laws.law U W L C X l l' m a c.requires d;
+      law = laws.law l l'.tally l'.marks l'.policy m a d;
       answered = d.answered;
       booked = d.booked;
-      figured = laws.figured U W L C X l l' m a c.requires d;
-      untouched = d.untouched;
+      figured = laws.figured l l'.tally l'.marks l'.policy m a d;
+      untouched = laws.untouched_by l l' a d.left d.marks_left d.policy_same;
       kept = d.pool_kept;
       lent = d.lent;
     }

@@ -8,7 +8,7 @@ use Rattle.ledger.proofs.units.defer_from.Goals as goal
 pub loop-number-init : goal.loop-number-init
 loop-number-init g c =
     let hs = holders_of c.args.marks.now in
-    (c.requires, sym (ap (λ (k : ℕ). defer_from c.args.volume c.args.start k hs) (omega arith) ∙ defer-none c.args.volume c.args.start hs), refl, refl, omega arith)
+    (sym (ap (λ (k : ℕ). defer_from c.args.volume c.args.start k hs) (omega arith) ∙ defer-none c.args.volume c.args.start hs), refl, refl, omega arith)
 
 pub loop-number-preserved : goal.loop-number-preserved
 loop-number-preserved g c =
@@ -20,22 +20,20 @@ loop-number-preserved g c =
     let inv = c.loop-number.invariant in
     let past : s + (i - s) ≡ i = omega arith in
     let one : i - s + 1 ≡ i + 1 - s = omega arith in (
-      e.sound,
-      e.holders ∙ ap (map (defer v i)) inv.1 ∙ ap (λ (k : ℕ). map (defer v k) (defer_from v s (i - s) hs)) (sym past)
+      e.holders ∙ ap (map (defer v i)) inv.0 ∙ ap (λ (k : ℕ). map (defer v k) (defer_from v s (i - s) hs)) (sym past)
           ∙ sym (defer-more v s (i - s) hs) ∙ ap (λ (k : ℕ). defer_from v s k hs) one,
-      e.kept ∙ inv.2,
-      e.sized ∙ inv.3,
+      e.kept ∙ inv.1,
+      e.sized ∙ inv.2,
       omega arith,
     )
 
 pub returns : goal.returns
 returns g c =
     let inv = c.loop-number.invariant in
-    let bound = inv.4 in
+    let bound = inv.3 in
     let all : c.loop-number.number - c.args.start ≡ c.args.end - c.args.start = omega arith in
     record {
-      sound = inv.0;
-      holders = inv.1 ∙ ap (λ (k : ℕ). defer_from c.args.volume c.args.start k (holders_of c.args.marks.now)) all;
-      kept = inv.2;
-      sized = inv.3;
+      holders = inv.0 ∙ ap (λ (k : ℕ). defer_from c.args.volume c.args.start k (holders_of c.args.marks.now)) all;
+      kept = inv.1;
+      sized = inv.2;
     }

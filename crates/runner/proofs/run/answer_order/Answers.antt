@@ -9,7 +9,7 @@ use Rattle.runner.proofs.run.answer_order.Goals as goal
 -- there is room for any answer
 pub unreachable-requires : goal.unreachable-requires
 unreachable-requires g c =
-    omega (arith, c.in_default.ensures.0, short _ c.obey_at.ensures.one.proper, ap (λ (a : Answer). length (answer_bytes a)) c.answer-said.ensures, c.requires.room)
+    omega (arith, c.in_default.ensures.0, short _ c.obey_at.ensures.one.proper, ap (λ (a : Answer). length (answer_bytes a)) c.answer-said.ensures, c.requires)
 
 pub returns : goal.returns
 returns g c =
@@ -18,7 +18,7 @@ returns g c =
     let w = c.in-Ok.ensures in
     record {
       one =
-          subst (λ (a : Answer). One g.A.Allocator.units g.A.Allocator.wellmade g.A.Allocator.lent g.P.CostPolicy.cost g.P.CostPolicy.worst c.args.ledger.now c.obey_at.new.ledger (meaning c.args.order) a)
+          subst (λ (a : Answer). One c.args.ledger.now c.obey_at.new.ledger (meaning c.args.order) a)
           o.answered o;
       count = w.1 ∙ ap (λ (a : Answer). length (answer_bytes a)) same;
       bytes = w.2 ∙ ap (λ (a : Answer). laid c.args.answers.now c.args.written (answer_bytes a)) same;

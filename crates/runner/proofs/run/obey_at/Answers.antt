@@ -26,7 +26,6 @@ same_answer Q q (Err e) s h =
 pub returns-clause-one : goal.returns-clause-one
 returns-clause-one g c =
     let o = c.obey.ensures in
-    subst (λ (a : Answer). One g.A.Allocator.units g.A.Allocator.wellmade g.A.Allocator.lent g.P.CostPolicy.cost g.P.CostPolicy.worst c.args.ledger.now c.obey.new.self (meaning c.args.order) a)
+    subst (λ (a : Answer). One c.args.ledger.now c.obey.new.self (meaning c.args.order) a)
     (same_answer _ (λ e f q. search rules) _ _ c.map_err.ensures.cases)
-    (one g.A.Allocator.units g.A.Allocator.wellmade g.A.Allocator.lent g.P.CostPolicy.cost g.P.CostPolicy.worst
-    c.args.ledger.now c.obey.new.self (meaning c.args.order) _ c.requires o.sound o.law o.answered o.booked o.figured o.untouched o.lent)
+    (one c.args.ledger.now c.obey.new.self (meaning c.args.order) _ o.law o.answered o.booked o.figured o.untouched o.lent)

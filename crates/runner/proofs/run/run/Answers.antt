@@ -7,49 +7,40 @@ use Rattle.runner.proofs.run.run.Goals as goal
 
 pub orders-init : goal.orders-init
 orders-init g c =
-    let U = g.A.Allocator.units in
-    let W = g.A.Allocator.wellmade in
-    let L = g.A.Allocator.lent in
-    let C = g.P.CostPolicy.cost in
-    let X = g.P.CostPolicy.worst in
     let l = c.args.ledger.now in
     let s = c.args.script.now in
     let out = c.args.answers.now in (
       c.new-reader.ensures.bytes,
-      subst (λ (p : ℕ). running.Running U W L C X l l s out p 0 0 out) (sym c.new-reader.ensures.start) (running.begins U W L C X l s out c.requires),
+      subst (λ (p : ℕ). running.Running l l s out p 0 0 out) (sym c.new-reader.ensures.start) (running.begins l s out),
     )
 
 pub returns-then-script-gt-LONGEST_SCRIPT : goal.returns-then-script-gt-LONGEST_SCRIPT
 returns-then-script-gt-LONGEST_SCRIPT g c =
-    let f = running.too_long g.A.Allocator.units g.A.Allocator.wellmade g.A.Allocator.lent g.P.CostPolicy.cost g.P.CostPolicy.worst
-    c.args.ledger.now c.args.script.now c.args.answers.now c.requires c.if-script-gt-LONGEST_SCRIPT.true in
-    record { sound = f.sound; ended = f.ended_so; bytes = f.bytes_so; within = f.within_so; through = f.through }
+    let f = running.too_long c.args.ledger.now c.args.script.now c.args.answers.now c.if-script-gt-LONGEST_SCRIPT.true in
+    record { ended = f.ended_so; bytes = f.bytes_so; within = f.within_so; through = f.through }
 
 pub returns-in-Err : goal.returns-in-Err
 returns-in-Err g c =
-    let f = running.faults_there g.A.Allocator.units g.A.Allocator.wellmade g.A.Allocator.lent g.P.CostPolicy.cost g.P.CostPolicy.worst
-    c.args.ledger.now c.orders.ledger c.args.script.now (script_of c.orders.reader) c.args.answers.now (place_of c.orders.reader) c.place-place.result
+    let f = running.faults_there c.args.ledger.now c.orders.ledger c.args.script.now (script_of c.orders.reader) c.args.answers.now (place_of c.orders.reader) c.place-place.result
     c.orders.answered c.orders.written c.orders.answers c.orders.invariant.0 c.place-place.ensures c.if-script-gt-LONGEST_SCRIPT.false c.orders.invariant.1
     c.in-Err.fault c.in-Err.ensures.value.0 in
-    record { sound = f.sound; ended = rw c.from.ensures f.ended_so; bytes = f.bytes_so; within = f.within_so; through = f.through }
+    record { ended = rw c.from.ensures f.ended_so; bytes = f.bytes_so; within = f.within_so; through = f.through }
 
 pub returns-in-Ok-None : goal.returns-in-Ok-None
 returns-in-Ok-None g c =
     let value = subst (λ (o : Option Order). ReadOne (script_of c.orders.reader) (place_of c.orders.reader) (place_of c.next_order.new.self) (Ok o)) c.in-Ok-None.field-0-is c.in-Ok-None.ensures.value in
-    let f = running.ends_there g.A.Allocator.units g.A.Allocator.wellmade g.A.Allocator.lent g.P.CostPolicy.cost g.P.CostPolicy.worst
-    c.args.ledger.now c.orders.ledger c.args.script.now (script_of c.orders.reader) c.args.answers.now (place_of c.orders.reader) c.place-place.result
+    let f = running.ends_there c.args.ledger.now c.orders.ledger c.args.script.now (script_of c.orders.reader) c.args.answers.now (place_of c.orders.reader) c.place-place.result
     c.orders.answered c.orders.written c.orders.answers c.orders.invariant.0 c.place-place.ensures c.if-script-gt-LONGEST_SCRIPT.false c.orders.invariant.1
     value.0 in
-    record { sound = f.sound; ended = f.ended_so; bytes = f.bytes_so; within = f.within_so; through = f.through }
+    record { ended = f.ended_so; bytes = f.bytes_so; within = f.within_so; through = f.through }
 
 pub returns-then-answers-written-lt-LONGEST_ANSWER : goal.returns-then-answers-written-lt-LONGEST_ANSWER
 returns-then-answers-written-lt-LONGEST_ANSWER g c =
     let less : length c.args.answers.now < c.orders.written + 17 = omega (arith, c.if-answers-written-lt-LONGEST_ANSWER.true, c.orders.auto.answers) in
-    let f = running.lacks_room g.A.Allocator.units g.A.Allocator.wellmade g.A.Allocator.lent g.P.CostPolicy.cost g.P.CostPolicy.worst
-    c.args.ledger.now c.orders.ledger c.args.script.now (script_of c.orders.reader) c.args.answers.now (place_of c.orders.reader) c.place-place.result
+    let f = running.lacks_room c.args.ledger.now c.orders.ledger c.args.script.now (script_of c.orders.reader) c.args.answers.now (place_of c.orders.reader) c.place-place.result
     c.orders.answered c.orders.written c.orders.answers c.orders.invariant.0 c.place-place.ensures c.if-script-gt-LONGEST_SCRIPT.false c.orders.invariant.1
     c.in-Ok-Some.field-0 c.in-Ok-Some.order (place_of c.next_order.new.self) c.in-Ok-Some.field-0-is c.in-Ok-Some.ensures.value less in
-    record { sound = f.sound; ended = f.ended_so; bytes = f.bytes_so; within = f.within_so; through = f.through }
+    record { ended = f.ended_so; bytes = f.bytes_so; within = f.within_so; through = f.through }
 
 pub overflow_add-written : goal.overflow_add-written
 overflow_add-written g c =
@@ -61,8 +52,7 @@ orders-preserved g c =
     let room : c.orders.written + 17 ≤ length c.args.answers.now =
     omega (arith, c.if-answers-written-lt-LONGEST_ANSWER.false, c.orders.auto.answers, c.orders.invariant.1.going.fits) in
     let o = c.answer_order-written.ensures in
-    let r = running.goes g.A.Allocator.units g.A.Allocator.wellmade g.A.Allocator.lent g.P.CostPolicy.cost g.P.CostPolicy.worst
-    c.args.ledger.now c.orders.ledger c.args.script.now (script_of c.orders.reader) c.args.answers.now (place_of c.orders.reader) c.place-place.result
+    let r = running.goes c.args.ledger.now c.orders.ledger c.args.script.now (script_of c.orders.reader) c.args.answers.now (place_of c.orders.reader) c.place-place.result
     c.orders.answered c.orders.written c.orders.answers c.orders.invariant.0 c.place-place.ensures c.if-script-gt-LONGEST_SCRIPT.false c.orders.invariant.1
     c.in-Ok-Some.field-0 c.in-Ok-Some.order (place_of c.next_order.new.self) c.in-Ok-Some.field-0-is c.in-Ok-Some.ensures.value c.answer_order-written.new.ledger c.answer_order-written.result c.answer_order-written.new.answers
     c.in-Ok-Some.ensures.forward room o.one o.count o.bytes in
@@ -70,8 +60,7 @@ orders-preserved g c =
 
 pub orders-smaller : goal.orders-smaller
 orders-smaller g c =
-    let on = running.ahead g.A.Allocator.units g.A.Allocator.wellmade g.A.Allocator.lent g.P.CostPolicy.cost g.P.CostPolicy.worst
-    c.args.ledger.now c.orders.ledger c.args.script.now (script_of c.orders.reader) c.args.answers.now (place_of c.orders.reader) c.place-place.result
+    let on = running.ahead c.args.ledger.now c.orders.ledger c.args.script.now (script_of c.orders.reader) c.args.answers.now (place_of c.orders.reader) c.place-place.result
     c.orders.answered c.orders.written c.orders.answers c.orders.invariant.0 c.place-place.ensures c.if-script-gt-LONGEST_SCRIPT.false c.orders.invariant.1
     c.in-Ok-Some.field-0 c.in-Ok-Some.order (place_of c.next_order.new.self) c.in-Ok-Some.field-0-is c.in-Ok-Some.ensures.value c.in-Ok-Some.ensures.forward in
     omega (arith, on.0, on.1)

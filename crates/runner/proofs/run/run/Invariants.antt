@@ -6,8 +6,7 @@ use Rattle.runner.proofs.run.run.Given as goal
 abbrev pub invariant-orders : goal.invariant-orders
 invariant-orders g l =
     (script_of l.reader ≡ l.initial.script)
-    × Running g.A.Allocator.units g.A.Allocator.wellmade g.A.Allocator.lent g.P.CostPolicy.cost g.P.CostPolicy.worst
-    l.initial.ledger l.ledger l.initial.script l.initial.answers (place_of l.reader) l.answered l.written l.answers
+    × Running l.initial.ledger l.ledger l.initial.script l.initial.answers (place_of l.reader) l.answered l.written l.answers
 
 abbrev pub decreases-orders : goal.decreases-orders
 decreases-orders g l = length l.initial.script - place_of l.reader

@@ -4,7 +4,7 @@ use Rattle.setup.proofs.calls.run_on_chain.Goals as goal
 pub run_under-requires : goal.run_under-requires
 run_under-requires c =
     let fit = c.in_ok-check_chain.ensures in
-    record { wellmade = c.make-chain.ensures.made; checked = runs.checks c.args.slop c.args.units _ c.make-chain.ensures.units fit.1; fits = fit.2 }
+    record { checked = runs.checks c.args.slop c.args.units _ c.make-chain.ensures.units fit.1; fits = fit.2 }
 
 pub returns : goal.returns
 returns c =

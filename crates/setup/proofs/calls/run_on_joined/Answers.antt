@@ -7,7 +7,7 @@ make-pair-requires c =
     let fit = c.in_ok-check_joined.ensures in
     let b = c.make-bits.ensures in
     let h = c.make-chain.ensures in
-    (b.made, (h.made, runs.both_few _ _ (get_or c.args.units 0 0) (get_or c.args.units 1 0) b.units h.units fit.0.few))
+    runs.both_few _ _ (get_or c.args.units 0 0) (get_or c.args.units 1 0) b.units h.units fit.0.few
 
 pub run_under-requires : goal.run_under-requires
 run_under-requires c =
@@ -16,7 +16,6 @@ run_under-requires c =
     let n = get_or c.args.units 1 0 in
     let p = c.make-pair.ensures in
     record {
-      wellmade = p.made;
       checked = runs.checks c.args.slop (m + n) _ (p.units ∙ runs.both_in _ _ m n c.make-bits.ensures.units c.make-chain.ensures.units) fit.1;
       fits = fit.2;
     }

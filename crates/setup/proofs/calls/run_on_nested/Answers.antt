@@ -7,14 +7,14 @@ make-first-requires c =
     let fit = c.in_ok-check_nested.ensures in
     let b = c.make-first_bits.ensures in
     let h = c.make-first_chain.ensures in
-    (b.made, (h.made, runs.both_few _ _ (get_or c.args.units 0 0) (get_or c.args.units 1 0) b.units h.units fit.0.first.few))
+    runs.both_few _ _ (get_or c.args.units 0 0) (get_or c.args.units 1 0) b.units h.units fit.0.first.few
 
 pub make-second-requires : goal.make-second-requires
 make-second-requires c =
     let fit = c.in_ok-check_nested.ensures in
     let b = c.make-second_bits.ensures in
     let h = c.make-second_chain.ensures in
-    (b.made, (h.made, runs.both_few _ _ (get_or c.args.units 2 0) (get_or c.args.units 3 0) b.units h.units fit.0.second.few))
+    runs.both_few _ _ (get_or c.args.units 2 0) (get_or c.args.units 3 0) b.units h.units fit.0.second.few
 
 pub make-pair-requires : goal.make-pair-requires
 make-pair-requires c =
@@ -24,7 +24,7 @@ make-pair-requires c =
     let s = c.make-second.ensures in
     let one = f.units ∙ runs.both_in _ _ (get_or us 0 0) (get_or us 1 0) c.make-first_bits.ensures.units c.make-first_chain.ensures.units in
     let two = s.units ∙ runs.both_in _ _ (get_or us 2 0) (get_or us 3 0) c.make-second_bits.ensures.units c.make-second_chain.ensures.units in
-    (f.made, (s.made, runs.both_few _ _ (get_or us 0 0 + get_or us 1 0) (get_or us 2 0 + get_or us 3 0) one two fit.0.all_few))
+    runs.both_few _ _ (get_or us 0 0 + get_or us 1 0) (get_or us 2 0 + get_or us 3 0) one two fit.0.all_few
 
 pub run_under-requires : goal.run_under-requires
 run_under-requires c =
@@ -34,7 +34,7 @@ run_under-requires c =
     let one = c.make-first.ensures.units ∙ runs.both_in _ _ (get_or us 0 0) (get_or us 1 0) c.make-first_bits.ensures.units c.make-first_chain.ensures.units in
     let two = c.make-second.ensures.units ∙ runs.both_in _ _ (get_or us 2 0) (get_or us 3 0) c.make-second_bits.ensures.units c.make-second_chain.ensures.units in
     let all = p.units ∙ runs.both_in _ _ (get_or us 0 0 + get_or us 1 0) (get_or us 2 0 + get_or us 3 0) one two in
-    record { wellmade = p.made; checked = runs.checks c.args.slop (get_or us 0 0 + get_or us 1 0 + (get_or us 2 0 + get_or us 3 0)) _ all fit.1; fits = fit.2 }
+    record { checked = runs.checks c.args.slop (get_or us 0 0 + get_or us 1 0 + (get_or us 2 0 + get_or us 3 0)) _ all fit.1; fits = fit.2 }
 
 pub returns : goal.returns
 returns c =

@@ -8,19 +8,15 @@ use Rattle.setup.proofs.calls.run_over.Goals as goal
 pub returns : goal.returns
 returns g c =
     let U = g.A.Allocator.units in
-    let W = g.A.Allocator.wellmade in
     let L = g.A.Allocator.lent in
-    let C = g.P.CostPolicy.cost in
-    let X = g.P.CostPolicy.worst in
     let m = c.make-ledger.ensures in
     let r = c.run-ended.ensures in
     let given : c.close-pool.result.0 ≡ pool_of c.run-ended.new.ledger = ap (λ (x : g.row.A.Denot × g.row.P.Denot). x.0) c.close-pool.ensures in
     record {
       ran =
-          subst (λ (us : List Bool). RunWith (planned C X (U c.args.pool) c.args.policy c.args.slop) c.args.script.now c.args.answers.now c.run-ended.new.answers us c.run-ended.result)
+          subst (λ (us : List Bool). RunWith (planned g.P.CostPolicy (U c.args.pool) c.args.policy c.args.slop) c.args.script.now c.args.answers.now c.run-ended.new.answers us c.run-ended.result)
           (ap U (sym given))
-          (runs.run_with U W L C X c.make-ledger.result c.run-ended.new.ledger c.args.pool c.args.policy c.args.slop
+          (runs.run_with c.make-ledger.result c.run-ended.new.ledger c.args.pool c.args.policy c.args.slop
           c.args.script.now c.args.answers.now c.run-ended.new.answers c.run-ended.result m.made m.stands r.ended r.bytes r.within r.through);
-      keeps = subst W (sym given) r.sound.marks_sound.wellmade;
       lent = ap L given ∙ r.through.lent ∙ ap L m.made.pool_is;
     }

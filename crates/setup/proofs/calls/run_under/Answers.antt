@@ -8,7 +8,6 @@ returns-in-Copies g c =
     let same = runs.copies_plan c.in-Copies.n c.make.result.n (length (g.A.Allocator.units c.args.pool)) c.args.slop c.args.scheme c.make.ensures c.in-Copies.is in
     record {
       ran = runs.planned-run _ _ c.args.script.now c.args.answers.now c.run_over.new.answers (g.A.Allocator.units c.run_over.result.1) c.run_over.result.0 same r.ran;
-      keeps = r.keeps;
       lent = r.lent;
     }
 
@@ -21,6 +20,5 @@ returns-in-Parity g c =
       ran =
           runs.planned-run _ _ c.args.script.now c.args.answers.now c.run_over-in-Parity.new.answers (g.A.Allocator.units c.run_over-in-Parity.result.1) c.run_over-in-Parity.result.0
           same r.ran;
-      keeps = r.keeps;
       lent = r.lent;
     }
