@@ -35,7 +35,7 @@ ReadOne s p q (Err f) = (decode s p ≡ fault f) × (q ≡ p)
 
 -- the bytes that a reader reads, and where it stands
 abbrev pub script_of : Reader → List ℕ
-script_of r = r.script.now
+script_of r = r.cursor.script.now
 
 abbrev pub place_of : Reader → ℕ
 place_of r = r.cursor.place

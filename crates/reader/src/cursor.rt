@@ -1,12 +1,13 @@
 // A place in a script, and the fields of an order read from there on.
 ghost use Rattle.std.specs.Prelude.{◌≡◌, ℕ, ◌+◌, ◌-◌, ◌*◌, ◌<◌, ◌≤◌, length, OnOk};
-ghost use Rattle.reader.specs.Fields.{ByteAt, fault_at, NameAt, OrderAt, PairAt, UnitsAt};
+ghost use Rattle.reader.specs.Fields.{ByteAt, BytesAt, fault_at, NameAt, OrderAt, PairAt, UnitsAt};
+ghost use Rattle.reader.specs.declared.cursor.Flaw.TheVariants.{UnknownKind as of_no_kind};
 
 use super::fault::ReadFault;
-use orders::order::{Name, Order};
+use orders::order::{Name, Order, OrderKind, UnknownKind};
 
 /// Why no order can be read at a place.
-#[derive(Clone, Copy)]
+#[derive(Clone, Copy, PartialEq, Eq, Debug)]
 pub enum Flaw {
     /// The byte there is no kind of order.
     UnknownKind,
@@ -26,143 +27,148 @@ impl Flaw {
     }
 }
 
-/// A place in a script.
+impl From<UnknownKind> for Flaw {
+    ghost from_gives = { λ _ flaw. flaw ≡ of_no_kind };
+
+    fn from(_kind: UnknownKind) -> Flaw {
+        Flaw::UnknownKind
+    }
+}
+
+/// A script, and a place in it.
 #[derive(Drop)]
-pub struct Cursor {
+pub struct Cursor<'a> {
+    pub script: &'a [u8],
     pub place: usize,
 }
 
-impl Cursor {
-    fn byte(&mut self, script: &[u8]) -> Result<u8, Flaw>
-        ensures { ByteAt script.now self.old.place self.new.place result }
+impl<'a> Cursor<'a> {
+    // The next `N` bytes.
+    fn bytes<const N: usize>(&mut self) -> Result<&'a [u8; N], Flaw>
+        ensures { BytesAt N self.old self.new result }
     {
-        if self.place >= script.len() {
-            return Err(Flaw::CutShort);
-        }
-        let byte = script[self.place];
-        self.place += 1;
+        let rest = self.script.get(self.place..).ok_or(Flaw::CutShort)?;
+        let bytes = rest.first_chunk::<N>().ok_or(Flaw::CutShort)?;
+        self.place += N;
+        Ok(bytes)
+    }
+
+    fn byte(&mut self) -> Result<u8, Flaw>
+        ensures { ByteAt self.old self.new result }
+    {
+        let [byte] = *self.bytes::<1>()?;
         Ok(byte)
     }
 
     // Two fields of one byte each.
-    fn pair(&mut self, script: &[u8]) -> Result<(u8, u8), Flaw>
-        ensures { PairAt script.now self.old.place self.new.place result }
+    fn pair(&mut self) -> Result<(u8, u8), Flaw>
+        ensures { PairAt self.old self.new result }
     {
-        let place = self.place;
-        if place > script.len() || script.len() - place < 2 {
-            return Err(Flaw::CutShort);
-        }
-        self.place = place + 2;
-        Ok((script[place], script[place + 1]))
+        let [first, second] = *self.bytes::<2>()?;
+        Ok((first, second))
     }
 
     // A number of two bytes, the high one first.
-    fn units(&mut self, script: &[u8]) -> Result<u16, Flaw>
-        ensures { UnitsAt script.now self.old.place self.new.place result }
+    fn units(&mut self) -> Result<u16, Flaw>
+        ensures { UnitsAt self.old self.new result }
     {
-        let (high, low) = self.pair(script)?;
-        Ok(high as u16 * 256 + low as u16)
+        let bytes = self.bytes()?;
+        Ok(u16::from_be_bytes(*bytes))
     }
 
-    fn name<'a>(&mut self, script: &'a [u8]) -> Result<Name<'a>, Flaw>
-        ensures { NameAt script.now self.old.place self.new.place result }
+    fn name(&mut self) -> Result<Name<'a>, Flaw>
+        ensures { NameAt self.old self.new result }
     {
         let place = self.place;
-        if place > script.len() {
-            return Err(Flaw::CutShort);
-        }
-        let Some(bytes) = script[place..].first_chunk::<8>() else {
-            return Err(Flaw::CutShort);
-        };
-        self.place = place + 8;
+        let bytes = self.bytes()?;
         Ok(Name { bytes, place })
     }
 
     /// Reads the order that begins at the place: its kind and its body. At a flaw the place is left
     /// inside the order.
-    pub fn order<'a>(&mut self, script: &'a [u8]) -> Result<Order<'a>, Flaw>
-        requires { self.old.place < length script.now }
-        ensures value { OrderAt script.now self.old.place self.new.place result }
-        ensures forward { OnOk result ((self.old.place < self.new.place) × (self.new.place ≤ length script.now)) }
+    pub fn order(&mut self) -> Result<Order<'a>, Flaw>
+        requires { self.old.place < length self.old.script.now }
+        ensures same { self.new.script ≡ self.old.script }
+        ensures value { OrderAt self.old.script.now self.old.place self.new.place result }
+        ensures forward { OnOk result ((self.old.place < self.new.place) × (self.new.place ≤ length self.old.script.now)) }
     {
-        match self.byte(script)? {
-            0x01 => {
-                let parent = self.byte(script)?;
-                let name = self.name(script)?;
+        match OrderKind::try_from(self.byte()?)? {
+            OrderKind::Folder => {
+                let parent = self.byte()?;
+                let name = self.name()?;
                 Ok(Order::Folder { parent, name })
             }
-            0x02 => {
-                let (parent, records) = self.pair(script)?;
-                let name = self.name(script)?;
+            OrderKind::Volume => {
+                let (parent, records) = self.pair()?;
+                let name = self.name()?;
                 Ok(Order::Volume {
                     parent,
                     records,
                     name,
                 })
             }
-            0x03 => {
-                let dataset = self.byte(script)?;
-                let units = self.units(script)?;
+            OrderKind::Quota => {
+                let dataset = self.byte()?;
+                let units = self.units()?;
                 Ok(Order::Quota { dataset, units })
             }
-            0x04 => {
-                let dataset = self.byte(script)?;
-                let units = self.units(script)?;
+            OrderKind::Reserve => {
+                let dataset = self.byte()?;
+                let units = self.units()?;
                 Ok(Order::Reserve { dataset, units })
             }
-            0x05 => {
-                let (volume, records) = self.pair(script)?;
+            OrderKind::Resize => {
+                let (volume, records) = self.pair()?;
                 Ok(Order::Resize { volume, records })
             }
-            0x10 => {
-                let (transaction, volume) = self.pair(script)?;
+            OrderKind::Begin => {
+                let (transaction, volume) = self.pair()?;
                 Ok(Order::Begin {
                     transaction,
                     volume,
                 })
             }
-            0x11 => {
-                let (transaction, count) = self.pair(script)?;
+            OrderKind::HoldWrites => {
+                let (transaction, count) = self.pair()?;
                 Ok(Order::HoldWrites { transaction, count })
             }
-            0x12 => {
-                let (transaction, count) = self.pair(script)?;
+            OrderKind::HoldFrees => {
+                let (transaction, count) = self.pair()?;
                 Ok(Order::HoldFrees { transaction, count })
             }
-            0x13 => {
-                let transaction = self.byte(script)?;
+            OrderKind::Assign => {
+                let transaction = self.byte()?;
                 Ok(Order::Assign { transaction })
             }
-            0x14 => {
-                let transaction = self.byte(script)?;
+            OrderKind::Abort => {
+                let transaction = self.byte()?;
                 Ok(Order::Abort { transaction })
             }
-            0x15 => {
-                let (transaction, record) = self.pair(script)?;
-                let size = self.byte(script)?;
+            OrderKind::Write => {
+                let (transaction, record) = self.pair()?;
+                let size = self.byte()?;
                 Ok(Order::Write {
                     transaction,
                     record,
                     size,
                 })
             }
-            0x16 => {
-                let (transaction, record) = self.pair(script)?;
+            OrderKind::Free => {
+                let (transaction, record) = self.pair()?;
                 Ok(Order::Free {
                     transaction,
                     record,
                 })
             }
-            0x17 => {
-                let transaction = self.byte(script)?;
+            OrderKind::Commit => {
+                let transaction = self.byte()?;
                 Ok(Order::Commit { transaction })
             }
-            0x20 => Ok(Order::Turn),
-            0x21 => {
-                let dataset = self.byte(script)?;
+            OrderKind::Turn => Ok(Order::Turn),
+            OrderKind::Tell => {
+                let dataset = self.byte()?;
                 Ok(Order::Tell { dataset })
             }
-            _ => Err(Flaw::UnknownKind),
         }
     }
 }

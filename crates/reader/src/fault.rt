@@ -3,7 +3,7 @@ ghost use Rattle.std.specs.Prelude.{◌≡◌};
 ghost use Rattle.reader.specs.Decode.{number_and_place};
 
 /// Why no order can be read where one should begin, with the place of its first byte.
-#[derive(Clone, Copy)]
+#[derive(Clone, Copy, PartialEq, Eq, Debug)]
 pub enum ReadFault {
     /// The byte at the place is no kind of order.
     UnknownKind { place: usize },

@@ -10,8 +10,7 @@ use orders::order::Order;
 /// Stands over the bytes of a script, and keeps one place in them.
 #[derive(Drop)]
 pub struct Reader<'a> {
-    script: &'a [u8],
-    cursor: Cursor,
+    cursor: Cursor<'a>,
 }
 
 impl<'a> Reader<'a> {
@@ -21,8 +20,7 @@ impl<'a> Reader<'a> {
         ensures start { place_of result ≡ 0 }
     {
         Reader {
-            script,
-            cursor: Cursor { place: 0 },
+            cursor: Cursor { script, place: 0 },
         }
     }
 
@@ -40,22 +38,16 @@ impl<'a> Reader<'a> {
         ensures value { ReadOne (script_of self.old) (place_of self.old) (place_of self.new) result }
         ensures forward { Onward (script_of self.old) (place_of self.old) (place_of self.new) result }
     {
-        let script = self.script;
         let start = self.place();
-        if start >= script.len() {
+        if start >= self.cursor.script.len() {
             return Ok(None);
         }
         let mut guard = Guard {
             cursor: &mut self.cursor,
-            start,
-            completed: false,
+            back: Some(start),
         };
-        match guard.cursor.order(script) {
-            Ok(order) => {
-                guard.completed = true;
-                Ok(Some(order))
-            }
-            Err(flaw) => Err(flaw.at(start)),
-        }
+        let order = guard.cursor.order().map_err(|flaw| flaw.at(start))?;
+        guard.back = None;
+        Ok(Some(order))
     }
 }
