@@ -1,11 +1,13 @@
 -- The bits of lent bytes: one is turned over, or the first of them are cleared.
-use Rattle.std.proofs.Common.{◌≡◌, ℕ, zero, suc, ◌+◌, ◌-◌, ◌*◌, ◌/◌, ◌%◌, ◌^◌, ◌<◌, ◌≤◌, min, Bool, true, false, not, eqb, List, [], ◌∷◌, length, get_or, set, replicate, Ok, sym, refl, ap, ◌∙◌, subst, inl, inr, mul_assoc, arith}
+use Rattle.std.proofs.Common.{◌≡◌, ℕ, zero, suc, ◌+◌, ◌-◌, ◌*◌, ◌/◌, ◌%◌, ◌^◌, ◌<◌, ◌≤◌, min, Bool, true, false, not, eqb, List, [], ◌∷◌, length, get_or, take, drop, set, replicate, Ok, sym, refl, ap, ◌∙◌, subst, inl, inr, mul_assoc, arith}
 use native.Mathlib.Nat.{div-eq_of_lt}
 use lib.Bits.{bit_xor, xor_zero_r}
 use Rattle.std.proofs.lemmas.Nat.{xor_shr, xor_mod, shl-shr, shr-shr, pow-add, pow_below}
-use Rattle.std.proofs.lemmas.List.{get_or-set_same, get_or-set_other, get_or_past, length-set, ext_get_or, length-replicate, get_or-replicate}
+use Rattle.std.proofs.lemmas.List.{get_or-set_same, get_or-set_other, get_or_past, length-set, ext_get_or, length-replicate, get_or-replicate, get_or-take, get_or-drop, length-take-le, length-drop}
 use Rattle.std.proofs.lemmas.List.FromFn.{length-map-range_with_len, get_or-map-range_with_len, fill_by_all}
-use Rattle.std.proofs.lemmas.Bool.{cases_eq, cases_lt, eqb-true, ne_eqb}
+use Rattle.std.proofs.lemmas.Bool.{cases_eq, cases_lt, ne_eqb}
+use Rattle.std.proofs.lemmas.Nat.Bits.{bit_at-trailing_ones}
+use Rattle.std.specs.Int.{w8, trailing_ones}
 use Rattle.pool.proofs.Outs.{within}
 use Rattle.pool.specs.Marks.{bit_of, bit_at, marks, turned, low_cleared, cleared, beside_bits, Room, Mapped}
 use Rattle.pool.specs.Units.{Took, Gave}
@@ -152,7 +154,7 @@ mapped_in bs n h u w b =
     }
 
 -- a full byte
-pub full_bit : (j : ℕ) → j < 8 → bit_of 255 j ≡ true
+full_bit : (j : ℕ) → j < 8 → bit_of 255 j ≡ true
 full_bit zero h = refl
 full_bit (suc zero) h = refl
 full_bit (suc (suc zero)) h = refl
@@ -163,20 +165,15 @@ full_bit (suc (suc (suc (suc (suc (suc zero)))))) h = refl
 full_bit (suc (suc (suc (suc (suc (suc (suc zero))))))) h = refl
 full_bit (suc (suc (suc (suc (suc (suc (suc (suc j)))))))) h = absurd (omega arith)
 
-pub full_byte : (x : ℕ) → x < 256 → ((k : ℕ) → k < 8 → bit_of x k ≡ true) → x ≡ 255
-full_byte x h all =
-    let b : (k : ℕ) → k < 8 → x / 2 ^ k % 2 ≡ 1 = λ k l. eqb-true (x / 2 ^ k % 2) 1 (all k l) in
-    let y7 : 128 ≤ x = omega (arith, b 7 (omega arith)) in
-    let y6 : 192 ≤ x = omega (arith, b 6 (omega arith)) in
-    let y5 : 224 ≤ x = omega (arith, b 5 (omega arith)) in
-    let y4 : 240 ≤ x = omega (arith, b 4 (omega arith)) in
-    let y3 : 248 ≤ x = omega (arith, b 3 (omega arith)) in
-    let y2 : 252 ≤ x = omega (arith, b 2 (omega arith)) in
-    let y1 : 254 ≤ x = omega (arith, b 1 (omega arith)) in
-    omega (arith, b 0 (omega arith))
+-- the lowest bit that is clear of a byte that is not full
+lowest_clear : (x t : ℕ) → x + 1 < 256 → t ≡ trailing_ones w8 x → (t < 8) × (bit_of x t ≡ false) × ((k : ℕ) → k < t → bit_of x k ≡ true)
+lowest_clear x t h e =
+    let P : ℕ → Type 0 = λ z. (z < 8) × (bit_of x z ≡ false) × ((k : ℕ) → k < z → bit_of x k ≡ true) in
+    let l = bit_at-trailing_ones w8 x h in
+    subst P (sym e) (l.0, ap (λ (z : ℕ). eqb z 1) l.1, λ k b. ap (λ (z : ℕ). eqb z 1) (l.2 k b))
 
 -- the search for a clear bit, from the bytes that are known to be full
-pub full-before : (bs : List ℕ) (n h i : ℕ) → Mapped bs n h → ((k : ℕ) → h / 8 ≤ k → k < i → get_or bs k 0 ≡ 255) → (k : ℕ) → k / 8 < i → bit_at bs k ≡ true
+full-before : (bs : List ℕ) (n h i : ℕ) → Mapped bs n h → ((k : ℕ) → h / 8 ≤ k → k < i → get_or bs k 0 ≡ 255) → (k : ℕ) → k / 8 < i → bit_at bs k ≡ true
 full-before bs n h i w full k b =
     elim (cases_lt k h) [
       | inl l ↦ w.below k l
@@ -184,18 +181,45 @@ full-before bs n h i w full k b =
     ]
 
 -- the bits of byte i, as bits of the memory
-pub byte_bit : (bs : List ℕ) (i j k : ℕ) → j < 8 → 8 * i + j ≡ k → bit_at bs k ≡ bit_of (get_or bs i 0) j
+byte_bit : (bs : List ℕ) (i j k : ℕ) → j < 8 → 8 * i + j ≡ k → bit_at bs k ≡ bit_of (get_or bs i 0) j
 byte_bit bs i j k h e =
     let d : k / 8 ≡ i = omega arith in
     let m : k % 8 ≡ j = omega arith in
     ap (λ (q : ℕ). bit_of (get_or bs q 0) (k % 8)) d ∙ ap (λ (q : ℕ). bit_of (get_or bs i 0) q) m
 
-pub lowest_before : (bs : List ℕ) (n h i j : ℕ) → Mapped bs n h → ((k : ℕ) → h / 8 ≤ k → k < i → get_or bs k 0 ≡ 255) → j < 8 → ((k : ℕ) → k < j → bit_of (get_or bs i 0) k ≡ true) → (k : ℕ) → k < 8 * i + j → bit_at bs k ≡ true
+lowest_before : (bs : List ℕ) (n h i j : ℕ) → Mapped bs n h → ((k : ℕ) → h / 8 ≤ k → k < i → get_or bs k 0 ≡ 255) → j < 8 → ((k : ℕ) → k < j → bit_of (get_or bs i 0) k ≡ true) → (k : ℕ) → k < 8 * i + j → bit_at bs k ≡ true
 lowest_before bs n h i j w full l low k b =
     elim (cases_lt (k / 8) i) [
       | inl c ↦ full-before bs n h i w full k c
       | inr c ↦ byte_bit bs i (k % 8) k (omega arith) (omega arith) ∙ low (k % 8) (omega arith)
     ]
+
+-- the bytes from a on and before b
+length_part : (bs : List ℕ) (a b : ℕ) → b ≤ length bs → length (take (b - a) (drop a bs)) ≡ b - a
+length_part bs a b h = length-take-le (b - a) (drop a bs) (omega (arith, length-drop a bs))
+
+part_at : (bs : List ℕ) (a b k : ℕ) → k < b - a → get_or (take (b - a) (drop a bs)) k 0 ≡ get_or bs (a + k) 0
+part_at bs a b k h = get_or-take (b - a) (drop a bs) k 0 h ∙ get_or-drop a bs k 0
+
+part_full : (bs : List ℕ) (a b m : ℕ) → m ≤ b - a → ((k : ℕ) → k < m → get_or (take (b - a) (drop a bs)) k 0 ≡ 255) → (k : ℕ) → a ≤ k → k < a + m → get_or bs k 0 ≡ 255
+part_full bs a b m l all k h c =
+    let j : a + (k - a) ≡ k = omega arith in
+    ap (λ (x : ℕ). get_or bs x 0) (sym j) ∙ sym (part_at bs a b (k - a) (omega arith)) ∙ all (k - a) (omega arith)
+
+-- the search has found no byte that is not full, or the first
+pub none_clear : (bs : List ℕ) (n h a b : ℕ) → Mapped bs n h → a ≡ h / 8 → b ≤ length bs → n ≤ 8 * b → ((k : ℕ) → k < length (take (b - a) (drop a bs)) → get_or (take (b - a) (drop a bs)) k 0 ≡ 255) → (k : ℕ) → k < n → bit_at bs k ≡ true
+none_clear bs n h a b w e l r all k c =
+    let lp = length_part bs a b l in
+    full-before bs n h b w (λ j lo hi. part_full bs a b (b - a) (omega arith) (λ i d. all i (omega arith)) j (omega arith) (omega arith)) k (omega arith)
+
+pub first_clear : (bs : List ℕ) (n h a b m t : ℕ) → Mapped bs n h → a ≡ h / 8 → b ≤ length bs → get_or bs (a + m) 0 < 256 → t ≡ trailing_ones w8 (get_or bs (a + m) 0) → (m < length (take (b - a) (drop a bs))) × (get_or (take (b - a) (drop a bs)) m 0 ≡ 255 → ⊥) × ((k : ℕ) → k < m → get_or (take (b - a) (drop a bs)) k 0 ≡ 255) → (bit_at bs (8 * (a + m) + t) ≡ false) × ((k : ℕ) → k < 8 * (a + m) + t → bit_at bs k ≡ true)
+first_clear bs n h a b m t w e l x s f =
+    let lp = length_part bs a b l in
+    let here : get_or (take (b - a) (drop a bs)) m 0 ≡ get_or bs (a + m) 0 = part_at bs a b m (omega arith) in
+    let ne : get_or bs (a + m) 0 ≡ 255 → ⊥ = λ z. f.1 (here ∙ z) in
+    let low = lowest_clear (get_or bs (a + m) 0) t (omega arith) s in
+    let full : (k : ℕ) → h / 8 ≤ k → k < a + m → get_or bs k 0 ≡ 255 = λ k lo hi. part_full bs a b m (omega arith) f.2 k (omega arith) hi in
+    (byte_bit bs (a + m) t (8 * (a + m) + t) low.0 refl ∙ low.1, lowest_before bs n h (a + m) t w full low.0 low.2)
 
 -- a byte with its lowest bits cleared
 low_clear : (x n j : ℕ) → j < min n 8 → bit_of (low_cleared x n) j ≡ false

@@ -22,34 +22,13 @@ fn turn(memory: &mut [u8], i: usize)
     memory[i / 8] ^= 1 << (i % 8);
 }
 
-// the lowest bit of the byte that is clear, or 8
-fn lowest_clear(byte: u8) -> u16
-    ensures low { result ≤ 8 }
-    ensures below { (k : ℕ) → k < result → bit_of byte k ≡ true }
-    ensures here { result < 8 → bit_of byte result ≡ false }
-    ensures full { (byte ≢ 255) → result < 8 }
+// the first of the bytes that is not full
+fn first_not_full(bytes: &[u8]) -> Option<usize>
+    ensures { MatchOption result
+        ((k : ℕ) → k < length bytes.now → slice_index bytes.now k ≡ 255)
+        (λ i. (i < length bytes.now) × (slice_index bytes.now i ≢ 255) × ((k : ℕ) → k < i → slice_index bytes.now k ≡ 255)) }
 {
-    for j in 0..8u16 {
-        if (byte >> j) % 2 == 0 {
-            return j;
-        }
-    }
-    8
-}
-
-// the first byte from `from` on and before `end` that is not full, or `end`
-fn first_not_full(memory: &[u8], from: usize, end: usize) -> usize
-    requires { (from ≤ end) × (end ≤ length memory.now) }
-    ensures within { result ≤ end }
-    ensures before { (k : ℕ) → from ≤ k → k < result → slice_index memory.now k ≡ 255 }
-    ensures here { result < end → slice_index memory.now result ≢ 255 }
-{
-    for i in from..end {
-        if memory[i] != u8::MAX {
-            return i;
-        }
-    }
-    end
+    bytes.iter().position(|byte| *byte != u8::MAX)
 }
 
 // the hint once the unit is in
@@ -60,19 +39,20 @@ fn lower(hint: u16, unit: u16) -> u16
 }
 
 // the byte with its lowest `n` bits cleared
-fn low_cleared(byte: u8, n: u16) -> u8
+fn low_cleared(byte: u8, n: usize) -> u8
     ensures { result ≡ low_cleared byte n }
 {
     if n < 8 { byte >> n << n } else { 0 }
 }
 
 // clears the first `size` bits of the memory, and no other
-fn clear(memory: &mut [u8], size: u16)
+fn clear(memory: &mut [u8], size: usize)
     requires { size ≤ 8 * length memory.old }
     ensures { memory.new ≡ cleared memory.old size }
 {
+    // By index: after a `fill` or an `iter_mut` a proof no longer knows what the bytes were.
     for i in 0..size.div_ceil(8) {
-        memory[i as usize] = low_cleared(memory[i as usize], size - 8 * i);
+        memory[i] = low_cleared(memory[i], size - 8 * i);
     }
 }
 
@@ -100,17 +80,15 @@ impl<'a> Bitmap<'a> {
     /// A bitmap with every unit in. It clears the first `size` bits of the memory, and keeps the others.
     pub fn make(size: usize, memory: &'a mut [u8]) -> Self
         requires { Room memory.old size }
-        ensures made { Mapped result.memory.now result.size result.hint }
         ensures fields { (result.size ≡ size) × (result.hint ≡ 0) }
         ensures units { marks result.memory.now result.size ≡ replicate size false }
         ensures holds { result.memory.now ≡ cleared memory.old size }
         ensures spare { (k : ℕ) → size ≤ k → bit_at result.memory.now k ≡ bit_at memory.old k }
         ensures named { result.memory.ghost_name ≡ memory.entry.ghost_name }
     {
-        let size = size as u16;
         clear(memory, size);
         Bitmap {
-            size,
+            size: size as u16,
             hint: 0,
             memory,
         }
@@ -120,12 +98,11 @@ impl<'a> Bitmap<'a> {
     fn first_in(&self) -> Option<u16>
         ensures { MatchOption result ((k : ℕ) → k < self.now.size → bit_at self.now.memory.now k ≡ true) (λ u. (u < self.now.size) × (bit_at self.now.memory.now u ≡ false) × ((k : ℕ) → k < u → bit_at self.now.memory.now k ≡ true)) }
     {
-        let end = (self.size as usize).div_ceil(8);
-        let i = first_not_full(self.memory, self.hint as usize / 8, end);
-        if i == end {
-            return None;
-        }
-        let unit = 8 * i as u16 + lowest_clear(self.memory[i]);
+        let from = usize::from(self.hint / 8);
+        let end = usize::from(self.size).div_ceil(8);
+        let i = from + first_not_full(&self.memory[from..end])?;
+        let byte = self.memory[i];
+        let unit = 8 * i as u16 + byte.trailing_ones() as u16;
         if unit < self.size { Some(unit) } else { None }
     }
 }
@@ -142,7 +119,7 @@ impl Allocator for Bitmap<'_> {
     }
 
     fn is_out(&self, unit: u16) -> bool {
-        unit < self.size && bit(self.memory, unit as usize)
+        unit < self.size && bit(self.memory, usize::from(unit))
     }
 
     /// Takes the lowest unit that is in. Refuses where every unit is out.
@@ -157,7 +134,7 @@ impl Allocator for Bitmap<'_> {
         let Some(unit) = self.first_in() else {
             return Err(AllocatorFault::AllOut);
         };
-        turn(self.memory, unit as usize);
+        turn(self.memory, usize::from(unit));
         self.hint = unit + 1;
         Ok(unit)
     }
@@ -175,7 +152,7 @@ impl Allocator for Bitmap<'_> {
             return Err(AllocatorFault::NotOut { unit });
         }
         self.hint = lower(self.hint, unit);
-        turn(self.memory, unit as usize);
+        turn(self.memory, usize::from(unit));
         Ok(())
     }
 }

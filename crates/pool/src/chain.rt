@@ -43,7 +43,6 @@ impl<'a> Chain<'a> {
     /// A chain with every unit in. It writes the first `size` entries, and keeps the others.
     pub fn make(size: usize, links: &'a mut [u16]) -> Self
         requires { Space links.old size }
-        ensures made { Linked result.links.now result.size result.head }
         ensures fields { (result.size ≡ size) × (result.head ≡ 0) }
         ensures units { taken result.links.now result.size ≡ replicate size false }
         ensures holds { result.links.now ≡ chained links.old size }

@@ -1,5 +1,5 @@
 -- What a lender concludes from the contracts of the makings and calls.
-use Rattle.std.proofs.Common.{◌≡◌, ℕ, ◌-◌, ◌*◌, ◌/◌, ◌^◌, ◌<◌, ◌≤◌, min, Bool, false, List, [], ◌∷◌, length, get_or, set, replicate, IfOk, Ok, Err, Result, sym, ap, ◌∙◌, subst, inl, inr, arith, MatchResult}
+use Rattle.std.proofs.Common.{◌≡◌, ℕ, ◌-◌, ◌*◌, ◌/◌, ◌^◌, ◌<◌, ◌≤◌, min, Bool, false, List, [], ◌∷◌, length, get_or, set, replicate, IfOk, Ok, Err, Option, Result, sym, ap, ◌∙◌, subst, inl, inr, arith, MatchResult}
 use Rattle.std.proofs.lemmas.Nat.{shl-shr}
 use Rattle.std.proofs.lemmas.List.FromFn.{get_or-map-range_with_len, fill_by_all}
 use Rattle.std.proofs.lemmas.List.{get_or-replicate, length-replicate}
@@ -64,12 +64,12 @@ beside-bits : (bs b₀ b₁ xs : List ℕ) (n s₀ s₁ : ℕ) → xs ≡ b₁ �
 beside-bits bs b₀ b₁ xs n s₀ s₁ x p e q h =
     ap (λ (l : List ℕ). cleared l n) x ∙ ap (cleared b₁) (sym p) ∙ e ∙ ap (cleared b₀) q ∙ ap (λ (l : List ℕ). cleared l n) h ∙ cleared_twice bs n
 
-listed-bits : (us : List Bool) (b₁ xs ls ys : List ℕ) (n s₁ : ℕ) (r : Result (Unit {0}) AllocatorFault) → Filled us (marks b₁ s₁) ls ys r → us ≡ replicate n false → xs ≡ b₁ → s₁ ≡ n → IfOk r (λ _. Takes (replicate n false) ys (marks xs n))
+listed-bits : (us : List Bool) (b₁ xs : List ℕ) (ls ys : List (Option ℕ)) (n s₁ : ℕ) (r : Result (Unit {0}) AllocatorFault) → Filled us (marks b₁ s₁) ls ys r → us ≡ replicate n false → xs ≡ b₁ → s₁ ≡ n → IfOk r (λ _. Takes (replicate n false) ys (marks xs n))
 listed-bits us b₁ xs ls ys n s₁ (Ok _) t e x k =
     let P : List Bool → Type 0 = λ l. Takes l ys (marks xs n) in
     let Q : List Bool → Type 0 = λ l. Takes us ys l in
     subst P e (subst Q (ap (marks b₁) k ∙ ap (λ (l : List ℕ). marks l n) (sym x)) t)
 listed-bits us b₁ xs ls ys n s₁ (Err f) t e x k = tt
 
-pub listing : (us : List Bool) (bs b₀ b₁ xs ls ys : List ℕ) (n s₀ s₁ : ℕ) (r : Result (Unit {0}) AllocatorFault) → Filled us (marks b₁ s₁) ls ys r → us ≡ replicate n false → xs ≡ b₁ → s₁ ≡ n → cleared b₁ s₁ ≡ cleared b₀ s₀ → s₀ ≡ n → b₀ ≡ cleared bs n → (cleared xs n ≡ cleared bs n) × IfOk r (λ _. Takes (replicate n false) ys (marks xs n))
+pub listing : (us : List Bool) (bs b₀ b₁ xs : List ℕ) (ls ys : List (Option ℕ)) (n s₀ s₁ : ℕ) (r : Result (Unit {0}) AllocatorFault) → Filled us (marks b₁ s₁) ls ys r → us ≡ replicate n false → xs ≡ b₁ → s₁ ≡ n → cleared b₁ s₁ ≡ cleared b₀ s₀ → s₀ ≡ n → b₀ ≡ cleared bs n → (cleared xs n ≡ cleared bs n) × IfOk r (λ _. Takes (replicate n false) ys (marks xs n))
 listing us bs b₀ b₁ xs ls ys n s₀ s₁ r t e x k w q h = (beside-bits bs b₀ b₁ xs n s₀ s₁ x k w q h, listed-bits us b₁ xs ls ys n s₁ r t e x k)

@@ -36,7 +36,11 @@ pub fn unlink_first(size: usize, links: &mut [u16]) -> Result<u16, AllocatorFaul
 
 /// Lists units of a new bitmap by generic code, and lets the bitmap go: what the memory holds beside the units is as it was,
 /// and where the list is filled, the units whose bits are set are those of the list.
-pub fn list_bits(size: usize, memory: &mut [u8], list: &mut [u16]) -> Result<(), AllocatorFault>
+pub fn list_bits(
+    size: usize,
+    memory: &mut [u8],
+    list: &mut [Option<u16>],
+) -> Result<(), AllocatorFault>
     ensures { (cleared memory.new size ≡ cleared memory.old size)
         × OnOk result (Takes (replicate size false) list.new (marks memory.new size)) }
 {

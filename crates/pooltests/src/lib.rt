@@ -7,7 +7,7 @@ pub mod lender;
 mod tests {
     use super::lender;
     use pool::allocator::{Allocator, AllocatorFault};
-    use pool::batch::{NO_UNIT, take_exact};
+    use pool::batch::take_exact;
     use pool::bitmap::Bitmap;
     use pool::chain::Chain;
     use pool::joined::Joined;
@@ -30,12 +30,10 @@ mod tests {
         pool: &mut A,
         from: u16,
     ) -> Result<(), Fail> {
-        for unit in from..pool.size() {
-            if (unit - from) % 2 == 0 {
-                pool.give(unit)?;
-                assert_eq!(rt; pool.give(unit), Err(AllocatorFault::NotOut { unit }));
-                assert!(rt; !pool.is_out(unit));
-            }
+        for unit in (from..pool.size()).step_by(2) {
+            pool.give(unit)?;
+            assert_eq!(rt; pool.give(unit), Err(AllocatorFault::NotOut { unit }));
+            assert!(rt; !pool.is_out(unit));
         }
         Ok(())
     }
@@ -130,16 +128,26 @@ mod tests {
     }
 
     // three units at once, then three more than there are
-    fn at_once<A: Allocator>(rt: &impl Abort, pool: &mut A, list: &mut [u16]) -> Result<(), Fail> {
-        let size = pool.size() as usize;
+    fn at_once<A: Allocator>(
+        rt: &impl Abort,
+        pool: &mut A,
+        list: &mut [Option<u16>],
+    ) -> Result<(), Fail> {
+        let size = usize::from(pool.size());
         assert!(rt; size >= 3 && list.len() >= size);
         take_exact(pool, &mut list[0..3])?;
-        assert!(rt; pool.is_out(list[0]) && pool.is_out(list[1]) && pool.is_out(list[2]));
+        for place in &list[0..3] {
+            let out = match *place {
+                Some(unit) => pool.is_out(unit),
+                None => false,
+            };
+            assert!(rt; out);
+        }
         assert_eq!(rt;
             take_exact(pool, &mut list[0..size]),
             Err(AllocatorFault::AllOut)
         );
-        assert_eq!(rt; list[0], NO_UNIT);
+        assert_eq!(rt; list[0], None);
         take_exact(pool, &mut list[0..size - 3])?;
         assert_eq!(rt; pool.take(), Err(AllocatorFault::AllOut));
         Ok(())
@@ -147,7 +155,7 @@ mod tests {
 
     #[test]
     fn lists(rt: HostRuntime) -> Result<(), Fail> {
-        let mut list = [0u16; 40];
+        let mut list = [Some(0u16); 40];
         let mut bits = [0xffu8; 2];
         let mut links = [0u16; 9];
         at_once(&rt, &mut Bitmap::make(10, &mut bits), &mut list)?;
@@ -159,7 +167,7 @@ mod tests {
     // a pair of pairs, and its two had back
     #[test]
     fn nested(rt: HostRuntime) -> Result<(), Fail> {
-        let mut list = [0u16; 40];
+        let mut list = [Some(0u16); 40];
         let mut bits = [0xffu8; 2];
         let mut links = [0u16; 9];
         let mut more_bits = [0u8; 1];
@@ -186,12 +194,12 @@ mod tests {
         let mut memory = [0xffu8; 3];
         assert_eq!(rt; lender::mark_first(9, &mut memory), Ok(0));
         assert_eq!(rt; memory, [0x01, 0xfe, 0xff]);
-        let mut list = [0u16; 3];
+        let mut list = [Some(0u16); 3];
         assert_eq!(rt; lender::list_bits(9, &mut memory, &mut list), Ok(()));
-        assert_eq!(rt; list, [0, 1, 2]);
+        assert_eq!(rt; list, [Some(0), Some(1), Some(2)]);
         assert_eq!(rt; memory, [0x07, 0xfe, 0xff]);
         let mut links = [7u16; 4];
         assert_eq!(rt; lender::unlink_first(3, &mut links), Ok(0));
-        assert_eq!(rt; links, [NO_UNIT, 2, 3, 7]);
+        assert_eq!(rt; links, [u16::MAX, 2, 3, 7]);
     }
 }

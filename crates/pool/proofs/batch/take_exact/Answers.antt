@@ -1,4 +1,4 @@
-use Rattle.std.proofs.Common.{ℕ, List, ◌∙◌, subst, arith}
+use Rattle.std.proofs.Common.{ℕ, List, Option, ◌∙◌, subst, arith}
 use Rattle.std.proofs.lemmas.List.{take_all}
 use Rattle.pool.specs.Batches.{Takes}
 use Rattle.pool.proofs.Batches.{taking, refusing}
@@ -12,12 +12,12 @@ loop-i-preserved g c =
 pub returns-in-Err : goal.returns-in-Err
 returns-in-Err g c = record {
   lent = c.give_back.ensures.lent ∙ c.take.ensures.lent ∙ c.loop-i.invariant.2;
-  filled = refusing _ (g.A.Allocator.units c.loop-i.pool) _ _ c.args.list.now c.loop-i.list _ c.loop-i.i _ (omega arith) c.loop-i.auto.list c.loop-i.invariant.0 c.loop-i.invariant.1 c.in-Err.ensures.took c.give_back.ensures.units c.give_back.ensures.list;
+  filled = refusing _ (g.A.Allocator.units c.loop-i.pool) _ _ c.args.list.now c.loop-i.list c.give_back.new.list c.loop-i.i _ (omega arith) c.loop-i.auto.list c.loop-i.invariant.0 c.loop-i.invariant.1 c.in-Err.ensures.took c.give_back.ensures.units c.give_back.ensures.list;
 }
 
 pub returns : goal.returns
 returns g c =
-    let P : List ℕ → Type 0 = λ l. Takes (g.A.Allocator.units c.args.pool.now) l (g.A.Allocator.units c.loop-i.pool) in
+    let P : List (Option ℕ) → Type 0 = λ l. Takes (g.A.Allocator.units c.args.pool.now) l (g.A.Allocator.units c.loop-i.pool) in
     record {
       lent = c.loop-i.invariant.2;
       filled = subst P (take_all c.loop-i.i c.loop-i.list (omega arith)) c.loop-i.invariant.0;

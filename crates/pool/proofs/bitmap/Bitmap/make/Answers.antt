@@ -1,4 +1,4 @@
-use Rattle.std.proofs.Common.{ℕ, List, refl, ap, ◌∙◌, rules}
+use Rattle.std.proofs.Common.{ℕ, List, refl, ap, ◌∙◌}
 use Rattle.pool.specs.Marks.{bit_at, marks}
 use Rattle.pool.proofs.Turns.{cleared-above, cleared-marks}
 use Rattle.pool.proofs.bitmap.Bitmap.make.Goals as goal
@@ -8,7 +8,6 @@ returns c =
     let n = c.args.size in
     let bs = c.args.memory.now in
     record {
-      made = search rules;
       fields = (refl, refl);
       units = ap (λ (l : List ℕ). marks l n) c.clear.ensures ∙ cleared-marks bs n c.requires.2;
       holds = c.clear.ensures;

@@ -1,4 +1,4 @@
-use Rattle.std.proofs.Common.{ℕ, List, sym, refl, ap, ◌∙◌, subst, rules}
+use Rattle.std.proofs.Common.{ℕ, List, sym, refl, ap, ◌∙◌, subst}
 use Rattle.pool.specs.Links.{taken, Linked}
 use Rattle.pool.proofs.Chains.{new-linked, new-taken}
 use Rattle.pool.proofs.chain.Chain.make.Goals as goal
@@ -8,7 +8,6 @@ returns c =
     let n = c.args.size in
     let ls = c.args.links.now in
     record {
-      made = search rules;
       fields = (refl, refl);
       units = ap (λ (l : List ℕ). taken l n) c.link.ensures ∙ new-taken ls n c.requires;
       holds = c.link.ensures;
