@@ -30,20 +30,14 @@ pub fn limit(room: u16, dataset: u8, quota: u16) -> Option<u16>
     if dataset == 0 {
         return Some(room);
     }
-    if quota == 0 {
-        return None;
-    }
-    Some(quota)
+    (quota != 0).then_some(quota)
 }
 
 /// By how much a charge passes a limit, 0 where it does not.
 pub fn excess(limit: Option<u16>, charge: u32) -> u32
     ensures { result ≡ excess_of limit charge }
 {
-    match limit {
-        Some(units) => charge.saturating_sub(u32::from(units)),
-        None => 0,
-    }
+    limit.map_or(0, |units| charge.saturating_sub(u32::from(units)))
 }
 
 /// The change of the parent's charge when a dataset's charge changes, a rise and a fall by one rule.

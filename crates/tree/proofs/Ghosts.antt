@@ -17,7 +17,7 @@ use Rattle.tree.specs.declared.node.Node.{Node}
 use Rattle.tree.specs.declared.step.Arrival.{Arrival}
 use Rattle.tree.specs.Nodes.{rows_in, charges_in, kinds_in, SamePlaces, Settled}
 use Rattle.tree.specs.Parts.{room_of, rows_of, charges_of, kinds_of}
-use Rattle.tree.specs.Answers.{child}
+use Rattle.tree.specs.Answers.{child, reservation_arrival}
 use Rattle.tree.proofs.Settling.{no_node}
 use Rattle.tree.proofs.Fine.{Fine, fine, count, kind-count, fine-own, fine-reservation, fine-quota, fine-new, kept_small}
 
@@ -51,8 +51,8 @@ abbrev pub edited : List Node → ℕ → (Row → Row) → List Node
 edited nodes d f = set nodes d (with_row (get_or nodes d no_node) f)
 
 -- what is settled through a slice that shows the old nodes is settled in them
-pub settled_from : (seen old now : List Node) (arrival : Arrival) → seen ≡ old → Settled seen now arrival → Settled old now arrival
-settled_from seen old now arrival e settled = subst (λ nodes. Settled nodes now arrival) e settled
+pub settled_from : (seen old now : List Node) (a b : Arrival) → seen ≡ old → a ≡ b → Settled seen now a → Settled old now b
+settled_from seen old now a b e same settled = subst (λ nodes. Settled nodes now b) e (subst (Settled seen now) same settled)
 
 -- after the row of d is edited through the slice, and the charges before it
 module _ (t : Tree) (now : List Node) (same : SamePlaces t.nodes.items now) (d i : ℕ) (at : i ≡ d) (f : Row → Row) where
@@ -100,35 +100,41 @@ quota-ghosts t d i x now e at l gt enough =
     edited-ghosts t now (nothing-moved t.nodes.items now e) d i at (put_quota x)
     (subst (λ kept. Fine (room_of t) (with_quota (rows_of t) d x) kept) (ap charges_in (sym e)) (fine-quota (room_of t) (rows_of t) (charges_of t) (fine t) d x l gt enough))
 
-module _ (t : Tree) (d x : ℕ) (k : ℤ) (l : d < length (rows_of t)) (is : k ≡ pos x -ℤ pos (row (rows_of t) d).own) (within : WithinLimits (room_of t) (with_own (rows_of t) d x)) where
-  own-fine : Fine (room_of t) (with_own (rows_of t) d x) (spread (rows_of t) (path (rows_of t) d) k (charges_of t))
-  own-fine =
-      subst (λ z. Fine (room_of t) (with_own (rows_of t) d x) (spread (rows_of t) (path (rows_of t) d) z (charges_of t))) (sym is)
-      (fine-own (room_of t) (rows_of t) (charges_of t) (fine t) d x l within)
+-- other own units, put in at their dataset
+abbrev pub own_arrival : Tree → ℕ → ℕ → Arrival
+own_arrival t d x = record { dataset = d; change = pos x -ℤ pos (row (rows_of t) d).own }
 
-  pub own-fits : (j : ℕ) → get_or (spread (rows_of t) (path (rows_of t) d) k (charges_of t)) j 0 < 2 ^ 16
-  own-fits = kept_small (room_of t) (with_own (rows_of t) d x) (spread (rows_of t) (path (rows_of t) d) k (charges_of t)) own-fine t.sized.0
+pub own_arrives : (t : Tree) (d x : ℕ) (r : Row) (z k : ℤ) → r ≡ row (rows_of t) d → z ≡ pos x -ℤ pos r.own → k ≡ z →
+    ◌≡◌ {A = Arrival} (record { dataset = d; change = k }) (own_arrival t d x)
+own_arrives t d x r z k is_row e same = ap (λ (c : ℤ). record { dataset = d; change = c }) (same ∙ e ∙ ap (λ (q : Row). pos x -ℤ pos q.own) is_row)
 
-  pub own-ghosts : (now : List Node) → Settled t.nodes.items now (record { dataset = d; change = k }) → (i : ℕ) → i ≡ d →
+-- the charges once a change is put in
+abbrev spread_in : Tree → Arrival → List ℕ
+spread_in t at = spread (rows_of t) (path (rows_of t) at.dataset) at.change (charges_of t)
+
+module _ (t : Tree) (d x : ℕ) (l : d < length (rows_of t)) (within : WithinLimits (room_of t) (with_own (rows_of t) d x)) where
+  own-fine : Fine (room_of t) (with_own (rows_of t) d x) (spread_in t (own_arrival t d x))
+  own-fine = fine-own (room_of t) (rows_of t) (charges_of t) (fine t) d x l within
+
+  pub own-fits : (j : ℕ) → get_or (spread_in t (own_arrival t d x)) j 0 < 2 ^ 16
+  own-fits = kept_small (room_of t) (with_own (rows_of t) d x) (spread_in t (own_arrival t d x)) own-fine t.sized.0
+
+  pub own-ghosts : (now : List Node) → Settled t.nodes.items now (own_arrival t d x) → (i : ℕ) → i ≡ d →
       Ghosts (room_of t) (with_items t.nodes (edited now i (put_own x))).items
   own-ghosts now s i at =
       edited-ghosts t now s.places d i at (put_own x) (subst (λ ks. Fine (room_of t) (with_own (rows_of t) d x) ks) (sym s.charges_are) own-fine)
 
-module _ (t : Tree) (d x p : ℕ) (k : ℤ) (l : d < length (rows_of t)) (gt : 0 < d) (parent : p ≡ (row (rows_of t) d).parent)
-    (is : k ≡ reweighed (charge (rows_of t) d) (row (rows_of t) d).reservation x) (allowed : (row (rows_of t) d).quota ≢ 0 → x ≤ (row (rows_of t) d).quota)
+module _ (t : Tree) (d x : ℕ) (l : d < length (rows_of t)) (gt : 0 < d) (allowed : (row (rows_of t) d).quota ≢ 0 → x ≤ (row (rows_of t) d).quota)
     (within : WithinLimits (room_of t) (with_reservation (rows_of t) d x)) where
-  reservation-fine : Fine (room_of t) (with_reservation (rows_of t) d x) (spread (rows_of t) (path (rows_of t) p) k (charges_of t))
+  reservation-fine : Fine (room_of t) (with_reservation (rows_of t) d x) (spread_in t (reservation_arrival (rows_of t) d x))
   reservation-fine =
-      let here : k ≡ reweighed (get_or (charges_of t) d 0) (row (rows_of t) d).reservation x =
-      is ∙ ap (λ n. reweighed n (row (rows_of t) d).reservation x) (sym (t.kept d l)) in
-      subst (λ q. Fine (room_of t) (with_reservation (rows_of t) d x) (spread (rows_of t) (path (rows_of t) q) k (charges_of t))) (sym parent)
-      (subst (λ z. Fine (room_of t) (with_reservation (rows_of t) d x) (spread (rows_of t) (path (rows_of t) (row (rows_of t) d).parent) z (charges_of t))) (sym here)
-      (fine-reservation (room_of t) (rows_of t) (charges_of t) (fine t) d x l gt allowed within))
+      subst (λ n. Fine (room_of t) (with_reservation (rows_of t) d x) (spread (rows_of t) (path (rows_of t) (row (rows_of t) d).parent) (reweighed n (row (rows_of t) d).reservation x) (charges_of t)))
+      (t.kept d l) (fine-reservation (room_of t) (rows_of t) (charges_of t) (fine t) d x l gt allowed within)
 
-  pub reservation-fits : (j : ℕ) → get_or (spread (rows_of t) (path (rows_of t) p) k (charges_of t)) j 0 < 2 ^ 16
-  reservation-fits = kept_small (room_of t) (with_reservation (rows_of t) d x) (spread (rows_of t) (path (rows_of t) p) k (charges_of t)) reservation-fine t.sized.0
+  pub reservation-fits : (j : ℕ) → get_or (spread_in t (reservation_arrival (rows_of t) d x)) j 0 < 2 ^ 16
+  reservation-fits = kept_small (room_of t) (with_reservation (rows_of t) d x) (spread_in t (reservation_arrival (rows_of t) d x)) reservation-fine t.sized.0
 
-  pub reservation-ghosts : (now : List Node) → Settled t.nodes.items now (record { dataset = p; change = k }) → (i : ℕ) → i ≡ d →
+  pub reservation-ghosts : (now : List Node) → Settled t.nodes.items now (reservation_arrival (rows_of t) d x) → (i : ℕ) → i ≡ d →
       Ghosts (room_of t) (with_items t.nodes (edited now i (put_reservation x))).items
   reservation-ghosts now s i at =
       edited-ghosts t now s.places d i at (put_reservation x) (subst (λ ks. Fine (room_of t) (with_reservation (rows_of t) d x) ks) (sym s.charges_are) reservation-fine)

@@ -1,8 +1,6 @@
 -- What the checks of a call establish for the write that follows.
 use Rattle.std.proofs.Common.{◌≡◌, ℕ, ◌+◌, ◌^◌, ◌<◌, ◌≤◌, length, ℤ, pos, Some, None, sym, ap, ◌∙◌, arith}
-use Rattle.charges.specs.declared.Row.{Row}
-use Rattle.charges.specs.Amounts.{reweighed}
-use Rattle.charges.specs.Tree.{row, charge, WithinLimits, with_own, with_reservation, raised}
+use Rattle.charges.specs.Tree.{row, WithinLimits, with_own, with_reservation, raised}
 use Rattle.charges.specs.Walk.{walk}
 use Rattle.charges.proofs.Edits.{own-edited, own-set}
 use Rattle.charges.proofs.Walks.{rise_law, reserve-law}
@@ -30,23 +28,12 @@ module _ (t : Tree) (d units : ℕ) (l : d < length (rows_of t)) where
 pub lower-within : (t : Tree) (d x : ℕ) → d < length (rows_of t) → x ≤ (row (rows_of t) d).own → WithinLimits (room_of t) (with_own (rows_of t) d x)
 lower-within t d x l le = fall_law.by_own (room_of t) (rows_of t) d x t.rooted t.within l le
 
--- the change of the weight, by the row and the charge that were read
-pub weighs : (t : Tree) (d units : ℕ) (r : Row) (x : ℕ) (z k : ℤ) → r ≡ row (rows_of t) d → x ≡ charge (rows_of t) d → z ≡ reweighed x r.reservation units → k ≡ z →
-    k ≡ reweighed (charge (rows_of t) d) (row (rows_of t) d).reservation units
-weighs t d units r x z k is_row is-charge e same =
-    same ∙ e ∙ ap (λ n. reweighed n r.reservation units) is-charge ∙ ap (λ (q : Row). reweighed (charge (rows_of t) d) q.reservation units) is_row
+pub parent-inside : (t : Tree) (d : ℕ) → d < length (rows_of t) → 0 < d → (row (rows_of t) d).parent < length (rows_of t)
+parent-inside t d l gt = omega (arith, t.rooted d gt l)
 
-module _ (t : Tree) (d units p : ℕ) (k : ℤ) (l : d < length (rows_of t)) (gt : 0 < d) (parent : p ≡ (row (rows_of t) d).parent)
-    (is : k ≡ reweighed (charge (rows_of t) d) (row (rows_of t) d).reservation units) where
-  pub same-walk : reservation_walk (room_of t) (rows_of t) d units ≡ walk (room_of t) (rows_of t) p k
-  same-walk = ap (walk (room_of t) (rows_of t) (row (rows_of t) d).parent) (sym is) ∙ ap (λ q. walk (room_of t) (rows_of t) q k) (sym parent)
+module _ (t : Tree) (d units : ℕ) (l : d < length (rows_of t)) (gt : 0 < d) where
+  pub reserve-fits : units < 2 ^ 16 → (e s : ℕ) → reservation_walk (room_of t) (rows_of t) d units ≡ Some (e, s) → s < 2 ^ 16
+  reserve-fits small e s named = (excess-law.by_reservation (room_of t) (rows_of t) d units t.rooted t.within l gt small e s named).1
 
-  pub parent-inside : p < length (rows_of t)
-  parent-inside = omega (arith, t.rooted d gt l)
-
-  pub reserve-fits : units < 2 ^ 16 → (e s : ℕ) → walk (room_of t) (rows_of t) p k ≡ Some (e, s) → s < 2 ^ 16
-  reserve-fits small e s named =
-      (excess-law.by_reservation (room_of t) (rows_of t) d units t.rooted t.within l gt small e s (same-walk ∙ named)).1
-
-pub reserve-within : (t : Tree) (d units : ℕ) → d < length (rows_of t) → 0 < d → reservation_walk (room_of t) (rows_of t) d units ≡ None → WithinLimits (room_of t) (with_reservation (rows_of t) d units)
-reserve-within t d units l gt granted = (reserve-law (room_of t) (rows_of t) d units t.rooted t.within l gt).none.0 granted
+  pub reserve-within : reservation_walk (room_of t) (rows_of t) d units ≡ None → WithinLimits (room_of t) (with_reservation (rows_of t) d units)
+  reserve-within granted = (reserve-law (room_of t) (rows_of t) d units t.rooted t.within l gt).none.0 granted

@@ -8,6 +8,7 @@ use Rattle.rules.specs.declared.state.Kind.{Kind}
 use Rattle.rules.specs.declared.state.Kind.TheVariants.{Folder, Volume}
 use Rattle.tree.specs.declared.fault.TreeFault.{TreeFault}
 use Rattle.tree.specs.declared.fault.TreeFault.TheVariants.{Missing, IsRoot, NotFolder, NotVolume, Full, RecordCount, QuotaTooSmall, ReservationTooLarge}
+use Rattle.tree.specs.declared.step.Arrival.{Arrival}
 use Rattle.tree.specs.Faults.{limit_fault}
 
 abbrev pub kind_in : List Kind → ℕ → Kind
@@ -91,7 +92,12 @@ volume_answer rows kinds parent records =
 abbrev pub quota_answer : List Row → ℕ → ℕ → Result ℕ TreeFault
 quota_answer rows d units = if_exists rows d (if_not_root d (if_quota d units (charge rows d) (row rows d).reservation (Ok (charge rows d))))
 
--- the walk for another reservation: from the parent up, by the change of the dataset's weight
+-- what another reservation does to the parent: the change of the dataset's weight
+abbrev pub reservation_arrival : List Row → ℕ → ℕ → Arrival
+reservation_arrival rows d units =
+    record { dataset = (row rows d).parent; change = reweighed (charge rows d) (row rows d).reservation units }
+
+-- the walk for another reservation: from the parent up
 abbrev pub reservation_walk : ℕ → List Row → ℕ → ℕ → Option (ℕ × ℕ)
 reservation_walk room rows d units = walk room rows (row rows d).parent (reweighed (charge rows d) (row rows d).reservation units)
 

@@ -9,7 +9,7 @@ use super::Tree;
 use super::fault::TreeFault;
 use super::node::settle;
 use super::step::Arrival;
-use charges::numbers::{reweighed, weight};
+use charges::numbers::weight;
 
 // A quota that is not 0 is below neither the charge nor the reservation.
 fn check_quota(d: u8, units: u16, charge: u16, reservation: u16) -> Result<(), TreeFault>
@@ -100,7 +100,7 @@ impl Tree {
         requires enough { units ≢ 0 → (charge_in (rows_of self.old) d ≤ units) × ((row_in (rows_of self.old) d).reservation ≤ units) }
         ensures { Becomes self.old self.new (with_quota (rows_of self.old) d units) (kinds_of self.old) }
     {
-        self.nodes.as_mut_slice()[usize::from(d)].row.quota = units;
+        self.nodes[usize::from(d)].row.quota = units;
     }
 
     // The parent's charge changes by the change of the weight.
@@ -111,16 +111,9 @@ impl Tree {
         requires granted { reservation_walk (room_of self.old) (rows_of self.old) d units ≡ None }
         ensures { Becomes self.old self.new (with_reservation (rows_of self.old) d units) (kinds_of self.old) }
     {
-        let node = self.node(d);
-        let change = reweighed(node.charge, node.row.reservation, units);
+        let arrival = self.reweighing(d, units);
         let nodes = self.nodes.as_mut_slice();
-        settle(
-            nodes,
-            Arrival {
-                dataset: node.row.parent,
-                change,
-            },
-        );
+        settle(nodes, arrival);
         nodes[usize::from(d)].row.reservation = units;
     }
 
@@ -140,9 +133,12 @@ impl Tree {
         requires within { WithinLimits (room_of self.old) (with_own (rows_of self.old) d own) }
         ensures { Becomes self.old self.new (with_own (rows_of self.old) d own) (kinds_of self.old) }
     {
-        let change = moved(self.node(d).row.own, own);
+        let arrival = Arrival {
+            dataset: d,
+            change: moved(self.node(d).row.own, own),
+        };
         let nodes = self.nodes.as_mut_slice();
-        settle(nodes, Arrival { dataset: d, change });
+        settle(nodes, arrival);
         nodes[usize::from(d)].row.own = own;
     }
 }

@@ -24,6 +24,7 @@ mod tests;
 pub struct Tree {
     // the most units that the root may be charged
     room: u16,
+    // A parent is named by its number, with no heap: orders name datasets so.
     nodes: ArrayVec<Node, 64>,
     ghost sized: { Sized room (length nodes.items) },
     ghost rooted: { Rooted (rows_in nodes.items) },

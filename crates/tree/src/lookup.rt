@@ -3,7 +3,7 @@ ghost use Rattle.std.specs.Prelude.{◌≡◌, ℕ, ◌^◌, ◌<◌, length, po
 ghost use Rattle.charges.specs.Tree.{charge as charge_in, row as row_in};
 ghost use Rattle.charges.specs.Walk.{walk as walk_in};
 ghost use Rattle.tree.specs.Parts.{Sound, kinds_of, room_of, rows_of};
-ghost use Rattle.tree.specs.Answers.{as_child, as_dataset, as_folder, as_volume, charge_answer, if_exists, if_granted, if_kind, kind_in, reservation_walk, walk_answer};
+ghost use Rattle.tree.specs.Answers.{as_child, as_dataset, as_folder, as_volume, charge_answer, if_exists, if_granted, if_kind, kind_in, reservation_arrival, reservation_walk, walk_answer};
 
 use super::Tree;
 use super::fault::TreeFault;
@@ -51,15 +51,15 @@ impl Tree {
         if !self.has(d) {
             return None;
         }
-        self.climb(d, change)
+        self.climb(Arrival { dataset: d, change })
     }
 
-    // The same of a dataset that exists.
-    pub(crate) fn climb(&self, d: u8, change: i32) -> Option<(u8, u32)>
-        requires { d < length (rows_of self.now) }
-        ensures { result ≡ walk_in (room_of self.now) (rows_of self.now) d change }
+    // The same of a dataset that exists. That a number is in the tree is a fact of both: a type for it would borrow the tree, which each write ends.
+    fn climb(&self, first: Arrival) -> Option<(u8, u32)>
+        requires { first.dataset < length (rows_of self.now) }
+        ensures { result ≡ walk_in (room_of self.now) (rows_of self.now) first.dataset first.change }
     {
-        let mut arrival = Arrival { dataset: d, change };
+        let mut arrival = first;
         'up: loop {
             let node = self.node(arrival.dataset);
             let short = arrival.shortfall(self.room, node);
@@ -78,7 +78,10 @@ impl Tree {
         requires { d < length (rows_of self.now) }
         ensures { result ≡ if_granted (walk_in (room_of self.now) (rows_of self.now) d (pos units)) (Ok tt) }
     {
-        self.judge(d, i32::from(units))
+        self.judge(Arrival {
+            dataset: d,
+            change: i32::from(units),
+        })
     }
 
     // What a walk from the parent says for another reservation, by the change of the weight.
@@ -87,18 +90,28 @@ impl Tree {
         requires below { 0 < d }
         ensures { result ≡ if_granted (reservation_walk (room_of self.now) (rows_of self.now) d units) (Ok tt) }
     {
+        self.judge(self.reweighing(d, units))
+    }
+
+    // What another reservation does to the parent: the change of the weight.
+    pub(crate) fn reweighing(&self, d: u8, units: u16) -> Arrival
+        requires { d < length (rows_of self.now) }
+        ensures { result ≡ reservation_arrival (rows_of self.now) d units }
+    {
         let node = self.node(d);
-        let change = reweighed(node.charge, node.row.reservation, units);
-        self.judge(node.row.parent, change)
+        Arrival {
+            dataset: node.row.parent,
+            change: reweighed(node.charge, node.row.reservation, units),
+        }
     }
 
     // The walk from a dataset that exists, whose shortfall has two bytes.
-    pub(crate) fn judge(&self, d: u8, change: i32) -> Result<(), TreeFault>
-        requires inside { d < length (rows_of self.now) }
-        requires fits { (e s : ℕ) → walk_in (room_of self.now) (rows_of self.now) d change ≡ Some (e, s) → s < 2 ^ 16 }
-        ensures { result ≡ if_granted (walk_in (room_of self.now) (rows_of self.now) d change) (Ok tt) }
+    fn judge(&self, first: Arrival) -> Result<(), TreeFault>
+        requires inside { first.dataset < length (rows_of self.now) }
+        requires fits { (e s : ℕ) → walk_in (room_of self.now) (rows_of self.now) first.dataset first.change ≡ Some (e, s) → s < 2 ^ 16 }
+        ensures { result ≡ if_granted (walk_in (room_of self.now) (rows_of self.now) first.dataset first.change) (Ok tt) }
     {
-        match self.climb(d, change) {
+        match self.climb(first) {
             Some((dataset, shortfall)) => Err(TreeFault::LimitPassed {
                 dataset,
                 shortfall: shortfall as u16,

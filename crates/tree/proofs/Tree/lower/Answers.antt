@@ -1,13 +1,11 @@
-use Rattle.std.proofs.Common.{◌<◌, ◌≤◌, length, ap, arith, rules}
+use Rattle.std.proofs.Common.{◌<◌, length, ap, arith, rules}
 use Rattle.charges.specs.declared.Row.{Row}
-use Rattle.charges.specs.Tree.{row}
 use Rattle.tree.specs.Parts.{rows_of}
 use Rattle.tree.proofs.Granted.{lower-within}
 use Rattle.tree.proofs.Tree.lower.Goals as goal
 
-pub put_own-requires : goal.put_own-requires
-put_own-requires c =
+pub put_own-requires-clause-within : goal.put_own-requires-clause-within
+put_own-requires-clause-within c =
     let inside : c.args.d < length (rows_of c.args.self.now) = search rules in
-    let less : c.saturating_sub-own.result ≤ (row (rows_of c.args.self.now) c.args.d).own =
-    omega (arith, c.saturating_sub-own.ensures, ap (λ (r : Row). r.own) c.node.ensures.row) in
-    record { inside = inside; within = lower-within c.args.self.now c.args.d c.saturating_sub-own.result inside less }
+    lower-within c.args.self.now c.args.d c.saturating_sub-own.result inside
+    (omega (arith, c.saturating_sub-own.ensures, ap (λ (r : Row). r.own) c.node.ensures.row))

@@ -13,10 +13,8 @@ overflow_add-own c =
       ap (λ (r : Row). r.own) c.node.ensures.row,
     )
 
-pub put_own-requires : goal.put_own-requires
-put_own-requires c = record {
-  inside = c.requires.inside;
-  within = subst (λ (n : ℕ). WithinLimits (room_of c.args.self.now) (with_own (rows_of c.args.self.now) c.args.d (n + c.args.units)))
-      (sym (ap (λ (r : Row). r.own) c.node.ensures.row))
-      (raise_within c.args.self.now c.args.d c.args.units c.requires.inside c.requires.granted);
-}
+pub put_own-requires-clause-within : goal.put_own-requires-clause-within
+put_own-requires-clause-within c =
+    subst (λ (n : ℕ). WithinLimits (room_of c.args.self.now) (with_own (rows_of c.args.self.now) c.args.d (n + c.args.units)))
+    (sym (ap (λ (r : Row). r.own) c.node.ensures.row))
+    (raise_within c.args.self.now c.args.d c.args.units c.requires.inside c.requires.granted)

@@ -1,10 +1,7 @@
 -- The loop keeps `Coming`, and ends with it at the root.
 use Rattle.std.proofs.Common.{◌^◌, ◌<◌, sym, refl, ◌∙◌, arith}
-use Rattle.tree.proofs.Settling.{first, come_fits, come_less, come_on, come_done}
+use Rattle.tree.proofs.Settling.{come_fits, come_less, come_on, come_done}
 use Rattle.tree.proofs.node.settle.Goals as goal
-
-pub up-init : goal.up-init
-up-init c = first _ _ c.requires.inside
 
 pub overflow_cast-nodes : goal.overflow_cast-nodes
 overflow_cast-nodes c =
