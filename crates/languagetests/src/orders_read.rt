@@ -1,12 +1,13 @@
 // Orders read from scripts, whole, cut and of kinds that there are not.
-use orders::order::Order;
+use orders::order::{Name, Order, OrderKind, UnknownKind};
 use reader::fault::ReadFault;
 use reader::reader::Reader;
 use std::alloc::{AllocError, Global};
 use std::process::Abort;
 use std::test::Fail;
 
-// The number of bytes behind a kind byte, by the order table.
+// The number of bytes behind a kind byte, by the order table: by bytes and not by `OrderKind`, so that the test does not stand on
+// what it tests.
 fn body_len(kind: u8) -> Option<usize> {
     match kind {
         0x01 => Some(9),
@@ -19,14 +20,6 @@ fn body_len(kind: u8) -> Option<usize> {
     }
 }
 
-fn high(units: u16) -> u8 {
-    (units / 256) as u8
-}
-
-fn low(units: u16) -> u8 {
-    (units % 256) as u8
-}
-
 // The bytes of an order up to its name, written out again field by field.
 fn head(heap: Global, order: Order<'_>) -> Result<Vec<u8>, AllocError> {
     match order {
@@ -36,8 +29,14 @@ fn head(heap: Global, order: Order<'_>) -> Result<Vec<u8>, AllocError> {
             records,
             ..
         } => [0x02, parent, records].to_vec(heap),
-        Order::Quota { dataset, units } => [0x03, dataset, high(units), low(units)].to_vec(heap),
-        Order::Reserve { dataset, units } => [0x04, dataset, high(units), low(units)].to_vec(heap),
+        Order::Quota { dataset, units } => {
+            let [high, low] = units.to_be_bytes();
+            [0x03, dataset, high, low].to_vec(heap)
+        }
+        Order::Reserve { dataset, units } => {
+            let [high, low] = units.to_be_bytes();
+            [0x04, dataset, high, low].to_vec(heap)
+        }
         Order::Resize { volume, records } => [0x05, volume, records].to_vec(heap),
         Order::Begin {
             transaction,
@@ -75,48 +74,43 @@ fn bytes_of(heap: Global, order: Order<'_>) -> Result<Vec<u8>, AllocError> {
 // Reads one order, which must be all of the script and have its bytes.
 fn expect_whole(rt: &impl Abort, heap: Global, script: &[u8]) -> Result<(), Fail> {
     let mut reader = Reader::new(script);
-    match reader.next_order() {
-        Ok(Some(order)) => {
-            let again = bytes_of(heap, order)?;
-            assert!(rt; again.as_slice() == script);
-        }
-        _ => return Err(Fail::new("no order")),
-    }
-    assert!(rt; reader.place() == script.len());
-    match reader.next_order() {
-        Ok(None) => {
-            assert!(rt; reader.place() == script.len());
-            Ok(())
-        },
-        _ => Err(Fail::new("something follows")),
-    }
+    let Ok(Some(order)) = reader.next_order() else {
+        return Err(Fail::new("no order"));
+    };
+    let again = bytes_of(heap, order)?;
+    assert_eq!(rt; again.as_slice(), script);
+    assert_eq!(rt; reader.place(), script.len());
+    assert_eq!(rt; reader.next_order(), Ok(None));
+    assert_eq!(rt; reader.place(), script.len());
+    Ok(())
 }
 
 // Reads a script that ends inside its only order; the place must stay.
-fn expect_cut(rt: &impl Abort, script: &[u8]) -> Result<(), Fail> {
+fn expect_cut(rt: &impl Abort, script: &[u8]) {
     let mut reader = Reader::new(script);
-    match reader.next_order() {
-        Err(ReadFault::CutShort { place }) => {
-            assert!(rt; place == 0);
-            assert!(rt; reader.place() == 0);
-            Ok(())
-        }
-        _ => Err(Fail::new("not cut short")),
-    }
+    assert_eq!(rt; reader.next_order(), Err(ReadFault::CutShort { place: 0 }));
+    assert_eq!(rt; reader.place(), 0);
+}
+
+// Reads a script that cannot be read on; the fault has its number, and the place stays at the order's first byte.
+fn expect_fault(
+    rt: &impl Abort,
+    reader: &mut Reader<'_>,
+    number: u8,
+    place: usize,
+) -> Result<(), Fail> {
+    let Err(fault) = reader.next_order() else {
+        return Err(Fail::new("no fault"));
+    };
+    assert_eq!(rt; fault.number(), number);
+    assert_eq!(rt; fault.place(), place);
+    assert_eq!(rt; reader.place(), place);
+    Ok(())
 }
 
 // Reads a script whose first byte is no kind; the place must stay.
 fn expect_unknown(rt: &impl Abort, script: &[u8]) -> Result<(), Fail> {
-    let mut reader = Reader::new(script);
-    match reader.next_order() {
-        Err(fault) => {
-            assert!(rt; fault.number() == 2);
-            assert!(rt; fault.place() == 0);
-            assert!(rt; reader.place() == 0);
-            Ok(())
-        }
-        _ => Err(Fail::new("not unknown")),
-    }
+    expect_fault(rt, &mut Reader::new(script), 2, 0)
 }
 
 #[test]
@@ -127,14 +121,16 @@ fn every_kind_byte_whole_and_cut_at_every_length(rt: HostRuntime) -> Result<(), 
         match body_len(kind) {
             None => {
                 expect_unknown(&rt, &script)?;
-                expect_unknown(&rt, &script[0..1])?;
+                expect_unknown(&rt, &script[..1])?;
+                assert_eq!(rt; OrderKind::try_from(kind), Err(UnknownKind(kind)));
             }
             Some(n) => {
                 assert!(rt; n < 11);
-                expect_whole(&rt, heap, &script[0..n + 1])?;
-                for cut in 1..n + 1 {
-                    expect_cut(&rt, &script[0..cut])?;
+                expect_whole(&rt, heap, &script[..=n])?;
+                for cut in 1..=n {
+                    expect_cut(&rt, &script[..cut]);
                 }
+                assert_eq!(rt; OrderKind::try_from(kind).map(u8::from), Ok(kind));
             }
         }
     }
@@ -149,60 +145,43 @@ fn the_worked_run_has_nine_orders(rt: HostRuntime) -> Result<(), Fail> {
     let mut reader = Reader::new(WORKED_RUN);
     let mut again = Vec::new(rt.alloc());
     for place in [0usize, 10, 21, 32, 36, 40, 43, 46, 48] {
-        assert!(rt; reader.place() == place);
-        match reader.next_order() {
-            Ok(Some(order)) => {
-                let bytes = bytes_of(rt.alloc(), order)?;
-                again.extend_from_slice(bytes.as_slice())?;
-            }
-            _ => return Err(Fail::new("no order")),
-        }
+        assert_eq!(rt; reader.place(), place);
+        let Ok(Some(order)) = reader.next_order() else {
+            return Err(Fail::new("no order"));
+        };
+        let bytes = bytes_of(rt.alloc(), order)?;
+        again.extend_from_slice(bytes.as_slice())?;
     }
-    assert!(rt; again.as_slice() == WORKED_RUN.as_slice());
-    match reader.next_order() {
-        Ok(None) => {
-            assert!(rt; reader.place() == 50);
-            Ok(())
-        },
-        _ => Err(Fail::new("not at the end")),
-    }
+    assert_eq!(rt; again.as_slice(), WORKED_RUN.as_slice());
+    assert_eq!(rt; reader.next_order(), Ok(None));
+    assert_eq!(rt; reader.place(), 50);
+    Ok(())
 }
 
 #[test]
-fn a_name_is_a_part_of_the_script(rt: HostRuntime) -> Result<(), Fail> {
+fn a_name_is_a_part_of_the_script(rt: HostRuntime) {
     let mut reader = Reader::new(WORKED_RUN);
     let _ = reader.next_order();
-    match reader.next_order() {
-        Ok(
-            Some(
-                Order::Volume {
-                    parent,
-                    records,
-                    name,
-                },
-            ),
-        ) => {
-            assert!(rt; parent == 1);
-            assert!(rt; records == 4);
-            assert!(rt; name.place == 13);
-            assert!(rt; name.bytes == b"PHOTOS--");
-            Ok(())
-        }
-        _ => Err(Fail::new("not a volume")),
-    }
+    let name = Name {
+        bytes: b"PHOTOS--",
+        place: 13,
+    };
+    let volume = Order::Volume {
+        parent: 1,
+        records: 4,
+        name,
+    };
+    assert_eq!(rt; reader.next_order(), Ok(Some(volume)));
 }
 
 #[test]
-fn units_have_their_high_byte_first(rt: HostRuntime) -> Result<(), Fail> {
+fn units_have_their_high_byte_first(rt: HostRuntime) {
     let mut reader = Reader::new(b"\x04\x07\x12\x34");
-    match reader.next_order() {
-        Ok(Some(Order::Reserve { dataset, units })) => {
-            assert!(rt; dataset == 7);
-            assert!(rt; units == 0x1234);
-            Ok(())
-        }
-        _ => Err(Fail::new("not a reservation")),
-    }
+    let reserve = Order::Reserve {
+        dataset: 7,
+        units: 0x1234,
+    };
+    assert_eq!(rt; reader.next_order(), Ok(Some(reserve)));
 }
 
 #[test]
@@ -210,13 +189,5 @@ fn a_flaw_behind_good_orders_is_named_by_its_place(rt: HostRuntime) -> Result<()
     let mut reader = Reader::new(b"\x20\x13\x05\x15\x01");
     let _ = reader.next_order();
     let _ = reader.next_order();
-    match reader.next_order() {
-        Err(fault) => {
-            assert!(rt; fault.number() == 3);
-            assert!(rt; fault.place() == 3);
-            assert!(rt; reader.place() == 3);
-            Ok(())
-        }
-        _ => Err(Fail::new("not cut short")),
-    }
+    expect_fault(&rt, &mut reader, 3, 3)
 }

@@ -14,135 +14,12 @@ impl fmt::Display for Quoted<'_> {
             match *byte {
                 b'"' => write!(f, "\\\"")?,
                 b'\\' => write!(f, "\\\\")?,
-                b' '..=b'~' => {
-                    let c = *byte as char;
-                    write!(f, "{c}")?;
-                }
+                b' '..=b'~' => f.write_char(char::from(*byte))?,
                 other => write!(f, "\\x{other:02x}")?,
             }
         }
         write!(f, "\"")
     }
-}
-
-/// A number of an order, with the word for what it is.
-#[derive(Clone, Copy)]
-struct Figure {
-    label: &'static str,
-    value: u16,
-}
-
-fn field(label: &'static str, value: u8) -> Option<Figure> {
-    Some(Figure {
-        label,
-        value: value as u16,
-    })
-}
-
-fn units(value: u16) -> Option<Figure> {
-    Some(Figure {
-        label: "units",
-        value,
-    })
-}
-
-// The order's name in the order table.
-fn word(order: Order<'_>) -> &'static str {
-    match order {
-        Order::Folder { .. } => "folder",
-        Order::Volume { .. } => "volume",
-        Order::Quota { .. } => "quota",
-        Order::Reserve { .. } => "reserve",
-        Order::Resize { .. } => "resize",
-        Order::Begin { .. } => "begin",
-        Order::HoldWrites { .. } => "hold writes",
-        Order::HoldFrees { .. } => "hold frees",
-        Order::Assign { .. } => "assign",
-        Order::Abort { .. } => "abort",
-        Order::Write { .. } => "write",
-        Order::Free { .. } => "free",
-        Order::Commit { .. } => "commit",
-        Order::Turn => "turn",
-        Order::Tell { .. } => "tell",
-    }
-}
-
-// The order's numbers, in the order of its bytes.
-fn fields(order: Order<'_>) -> [Option<Figure>; 3] {
-    match order {
-        Order::Folder { parent, .. } => [field("parent", parent), None, None],
-        Order::Volume {
-            parent,
-            records,
-            ..
-        } => { [field("parent", parent), field("records", records), None] }
-        Order::Quota { dataset, units: u } => [field("dataset", dataset), units(u), None],
-        Order::Reserve { dataset, units: u } => [field("dataset", dataset), units(u), None],
-        Order::Resize { volume, records } => {
-            [field("volume", volume), field("records", records), None]
-        }
-        Order::Begin {
-            transaction,
-            volume,
-        } => {
-            [
-                field("transaction", transaction),
-                field("volume", volume),
-                None,
-            ]
-        }
-        Order::HoldWrites { transaction, count } => {
-            [
-                field("transaction", transaction),
-                field("count", count),
-                None,
-            ]
-        }
-        Order::HoldFrees { transaction, count } => {
-            [
-                field("transaction", transaction),
-                field("count", count),
-                None,
-            ]
-        }
-        Order::Assign { transaction }
-        | Order::Abort { transaction }
-        | Order::Commit { transaction } => [field("transaction", transaction), None, None],
-        Order::Write {
-            transaction,
-            record,
-            size,
-        } => [
-            field("transaction", transaction),
-            field("record", record),
-            field("size", size),
-        ],
-        Order::Free {
-            transaction,
-            record,
-        } => {
-            [
-                field("transaction", transaction),
-                field("record", record),
-                None,
-            ]
-        }
-        Order::Turn => [None, None, None],
-        Order::Tell { dataset } => [field("dataset", dataset), None, None],
-    }
-}
-
-// The name that a folder or volume order gives.
-fn name(order: Order<'_>) -> Option<Quoted<'_>> {
-    match order {
-        Order::Folder { name, .. } | Order::Volume { name, .. } => Some(Quoted(name)),
-        _ => None,
-    }
-}
-
-// What stands before a field.
-fn mark(first: bool) -> &'static str {
-    if first { ":" } else { "," }
 }
 
 /// One line of the list: an order and the place of its first byte.
@@ -155,20 +32,57 @@ pub struct Line<'a> {
 impl fmt::Display for Line<'_> {
     fn fmt<W: fmt::Write>(&self, f: &mut fmt::Formatter<W>) -> fmt::Result {
         let place = self.place;
-        let word = word(self.order);
-        write!(f, "{place:>4}  {word}")?;
-        let mut first = true;
-        for field in fields(self.order) {
-            if let Some(Figure { label, value }) = field {
-                let mark = mark(first);
-                write!(f, "{mark} {label} {value}")?;
-                first = false;
+        write!(f, "{place:>4}  ")?;
+        match self.order {
+            Order::Folder { parent, name } => {
+                let name = Quoted(name);
+                write!(f, "folder: parent {parent}, name {name}")
             }
+            Order::Volume {
+                parent,
+                records,
+                name,
+            } => {
+                let name = Quoted(name);
+                write!(f, "volume: parent {parent}, records {records}, name {name}")
+            }
+            Order::Quota { dataset, units } => {
+                write!(f, "quota: dataset {dataset}, units {units}")
+            }
+            Order::Reserve { dataset, units } => {
+                write!(f, "reserve: dataset {dataset}, units {units}")
+            }
+            Order::Resize { volume, records } => {
+                write!(f, "resize: volume {volume}, records {records}")
+            }
+            Order::Begin {
+                transaction,
+                volume,
+            } => write!(f, "begin: transaction {transaction}, volume {volume}"),
+            Order::HoldWrites { transaction, count } => {
+                write!(f, "hold writes: transaction {transaction}, count {count}")
+            }
+            Order::HoldFrees { transaction, count } => {
+                write!(f, "hold frees: transaction {transaction}, count {count}")
+            }
+            Order::Assign { transaction } => write!(f, "assign: transaction {transaction}"),
+            Order::Abort { transaction } => write!(f, "abort: transaction {transaction}"),
+            Order::Write {
+                transaction,
+                record,
+                size,
+            } => write!(
+                f,
+                "write: transaction {transaction}, record {record}, size {size}"
+            ),
+            Order::Free {
+                transaction,
+                record,
+            } => write!(f, "free: transaction {transaction}, record {record}"),
+            Order::Commit { transaction } => write!(f, "commit: transaction {transaction}"),
+            Order::Turn => write!(f, "turn"),
+            Order::Tell { dataset } => write!(f, "tell: dataset {dataset}"),
         }
-        if let Some(name) = name(self.order) {
-            write!(f, ", name {name}")?;
-        }
-        Ok(())
     }
 }
 
@@ -185,6 +99,7 @@ pub enum Stop {
 pub(crate) fn stop_of(script: &[u8], fault: ReadFault) -> Stop {
     match fault {
         ReadFault::UnknownKind { place } => {
+            // The place is in the script, but a fault does not say so.
             let kind = script.get(place).copied().unwrap_or(0);
             Stop::UnknownKind { place, kind }
         }
@@ -237,9 +152,9 @@ mod tests {
             },
         };
         let text = format!(in rt.alloc(); "{line}")?;
-        assert!(rt;
-            text.as_str()
-                == "   1  volume: parent 2, records 64, name \"a \\\"\\\\~\\x7f\\x00\\xff\""
+        assert_eq!(rt;
+            text.as_str(),
+            "   1  volume: parent 2, records 64, name \"a \\\"\\\\~\\x7f\\x00\\xff\""
         );
         Ok(())
     }
@@ -251,7 +166,7 @@ mod tests {
             order: Order::Turn,
         };
         let text = format!(in rt.alloc(); "{line}")?;
-        assert!(rt; text.as_str() == "4095  turn");
+        assert_eq!(rt; text.as_str(), "4095  turn");
         Ok(())
     }
 
@@ -259,19 +174,21 @@ mod tests {
     fn every_stop_has_its_number_and_ground(rt: HostRuntime) -> Result<(), Fail> {
         let unknown = stop_of(&[0x20, 0x7f], ReadFault::UnknownKind { place: 1 });
         let text = format!(in rt.alloc(); "{unknown}")?;
-        assert!(rt;
-            text.as_str() == "stopped at place 1 with number 2: the byte 7f is no kind of order"
+        assert_eq!(rt;
+            text.as_str(),
+            "stopped at place 1 with number 2: the byte 7f is no kind of order"
         );
         let cut = stop_of(&[0x20, 0x13], ReadFault::CutShort { place: 1 });
         let text = format!(in rt.alloc(); "{cut}")?;
-        assert!(rt;
-            text.as_str() == "stopped at place 1 with number 3: the script ends inside this order"
+        assert_eq!(rt;
+            text.as_str(),
+            "stopped at place 1 with number 3: the script ends inside this order"
         );
         let long = Stop::TooLong;
         let text = format!(in rt.alloc(); "{long}")?;
-        assert!(rt;
-            text.as_str()
-                == "stopped at place 0 with number 1: the script is longer than 4,096 bytes"
+        assert_eq!(rt;
+            text.as_str(),
+            "stopped at place 0 with number 1: the script is longer than 4,096 bytes"
         );
         Ok(())
     }
