@@ -32,9 +32,6 @@ ok_is x y e = cc
 pub ok_not_err : {X T E : Type 0} (x : X) (f : E) → ◌≡◌ {A = Result X E} (Ok x) (Err f) → T
 ok_not_err x f e = let z : ◌≡◌ {A = ℕ} 0 1 = cc in absurd (omega arith)
 
-err_is : {X : Type 0} (f g : LedgerFault) → ◌≡◌ {A = Result X LedgerFault} (Err f) (Err g) → f ≡ g
-err_is f g e = cc
-
 -- what a change that is allowed says
 pub record Allowed (ts : List Transaction) (t : ℕ) (a : Asked) (c : Change) : Type 0 where
   pub listed : t < 32
@@ -53,17 +50,6 @@ pub allowed : (ts : List Transaction) (t : ℕ) (a : Asked) (c : Change) → cha
 allowed ts t a c e =
     let p = allowed_by (ltb t 32) (get_or ts t Idle) (step_of t (get_or ts t Idle) a) (NoSuchTransaction t) c e in
     record { listed = ltb-true t 32 p.0; before = p.1; after = p.2 }
-
--- a change that is not allowed is refused as the rules refuse it
-refused_by : (q : Bool) (t : ℕ) (x : Transaction) (r : Result Transaction LedgerFault) (f : LedgerFault) (k : Transaction → Answer) →
-    cond q (changed_by x r) (Err (NoSuchTransaction t)) ≡ Err f → cond q (and_then r k) (refused 5 t 0) ≡ Refused (refusal_of f)
-refused_by true t x (Ok y) f k e = ok_not_err (record { before = x; after = y }) f e
-refused_by true t x (Err g) f k e = ap (λ (h : LedgerFault). Refused (refusal_of h)) (err_is g f e)
-refused_by false t x r f k e = ap (λ (h : LedgerFault). Refused (refusal_of h)) (err_is (NoSuchTransaction t) f e)
-
-pub not-allowed : (ts : List Transaction) (t : ℕ) (a : Asked) (f : LedgerFault) (k : Transaction → Answer) → change_of ts t a ≡ Err f →
-    of_transaction t (and_then (step_of t (get_or ts t Idle) a) k) ≡ Refused (refusal_of f)
-not-allowed ts t a f k e = refused_by (ltb t 32) t (get_or ts t Idle) (step_of t (get_or ts t Idle) a) f k e
 
 -- one that is allowed goes on
 pub goes_on : (ts : List Transaction) (t : ℕ) (a : Asked) (c : Change) (k : Transaction → Answer) → change_of ts t a ≡ Ok c →

@@ -104,9 +104,6 @@ module _ (t : Tally) (p : ℕ) (name : List ℕ) where
     folder-fits =
         omega (arith, (folder_ok (figures_of (λ s. 0) t) (book_of t) d p name (folder-done (λ s. 0))).2, made-is t.tree t.contents t.transactions)
 
-    pub folder-room : d < 64
-    folder-room = omega (arith, folder_number, folder-fits)
-
     module _ (tree' : Tree) (be : Becomes t.tree tree' (rows_of t.tree ++ child p ∷ []) (kinds_of t.tree ++ Folder ∷ []))
         (x : Contents) (is : x ≡ empty name 0) where
       pub folder-book : (cost : ℕ → ℕ) → book_in tree' (set t.contents d x) t.transactions ≡ next (figures_of cost t) (book_of t) (folder p name)
@@ -151,9 +148,6 @@ module _ (t : Tally) (p records : ℕ) (name : List ℕ) where
     volume-fits : length (rows_of t.tree) < 64
     volume-fits =
         omega (arith, (volume_ok (figures_of (λ s. 0) t) (book_of t) d p records name (volume-done (λ s. 0))).2, made-is t.tree t.contents t.transactions)
-
-    pub volume-room : d < 64
-    volume-room = omega (arith, volume_number, volume-fits)
 
     module _ (tree' : Tree) (be : Becomes t.tree tree' (rows_of t.tree ++ child p ∷ []) (kinds_of t.tree ++ Volume ∷ []))
         (x : Contents) (is : x ≡ empty name records) where

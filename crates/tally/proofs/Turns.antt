@@ -41,7 +41,7 @@ use Rattle.tally.proofs.Asks.{and_then, ok_not_err}
 use Rattle.tally.proofs.Bounds.{contents-is}
 use Rattle.tally.proofs.Grants.{own-book}
 use Rattle.tally.proofs.Joins.{datasets-contents}
-use Rattle.tally.proofs.Sounds.{sound, made-is, rows_are, shaped, still-sound, refused_did, done_did}
+use Rattle.tally.proofs.Sounds.{sound, made-is, rows_are, shaped, still-sound, done_did}
 
 -- a dataset with nothing deferred is as shaped
 settled-shaped : (x : Dataset) → ShapedDataset x → ShapedDataset (settled_dataset x)
@@ -311,11 +311,6 @@ module _ (t : Tally) where
   turn-checked cost =
       counted_by (eqb (count_by is_assigned t.transactions) 0)
       (StillAssigned (first_assigned 0 t.transactions) (count_by is_assigned t.transactions)) (Done (all_deferred (book_of t)))
-
-  pub turn-refused : (f : LedgerFault) → turn_or t.transactions ≡ Err f → Did t t turn (Refused (refusal_of f))
-  turn-refused f e =
-      refused_did t t turn f
-      (λ cost. turn-checked cost ∙ ap (λ (r : Result (Unit {0}) LedgerFault). and_then r (λ _. Done (all_deferred (book_of t)))) e) refl
 
   pub turn_did : (t' : Tally) (n given : ℕ) → turn_or t.transactions ≡ Ok tt → Turning t t' n given → 64 ≤ n → Did t t' turn (Done given)
   turn_did t' n given e all le =

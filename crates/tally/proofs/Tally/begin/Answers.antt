@@ -2,10 +2,8 @@ use Rattle.std.proofs.Common.{ℕ, Some, sym, ap, ◌∙◌, subst}
 use Rattle.std.proofs.lemmas.Result.{err_from_is_err_and}
 use Rattle.orders.specs.declared.answer.Answer.TheVariants.{Done}
 use Rattle.orders.specs.Meaning.{begin}
-use Rattle.tally.specs.declared.step.Asked.TheVariants.{Begin}
 use Rattle.tally.specs.Parts.{Did}
 use Rattle.tally.specs.Steps.{lifted}
-use Rattle.tally.proofs.Asks.{allowed}
 use Rattle.tally.proofs.Transacts.{begin_no_volume, begin-sound, begin_did}
 use Rattle.tally.proofs.Tally.begin.Goals as goal
 
@@ -16,14 +14,10 @@ returns-in_err-in_transaction c =
     (begin_no_volume c.args.self.now c.args.t c.args.volume c.in_ok-change.change (sym c.in_ok-change.ensures)
     c.in_err-in_transaction.field-0.0 (ap (lifted (Some c.args.t)) (sym c.volume.ensures) ∙ sym c.in_err-in_transaction.ensures))
 
-pub put-requires : goal.put-requires
-put-requires c =
-    let e = sym c.in_ok-change.ensures in
-    record {
-      listed = (allowed c.args.self.now.transactions c.args.t (Begin c.args.volume) c.in_ok-change.change e).listed;
-      sound = begin-sound c.args.self.now c.args.t c.args.volume c.in_ok-change.change e
-          (ap (lifted (Some c.args.t)) (sym c.volume.ensures) ∙ sym c.in_ok-in_transaction.ensures);
-    }
+pub put-requires-clause-sound : goal.put-requires-clause-sound
+put-requires-clause-sound c =
+    begin-sound c.args.self.now c.args.t c.args.volume c.in_ok-change.change (sym c.in_ok-change.ensures)
+    (ap (lifted (Some c.args.t)) (sym c.volume.ensures) ∙ sym c.in_ok-in_transaction.ensures)
 
 pub returns : goal.returns
 returns c =

@@ -1,13 +1,6 @@
 use Rattle.std.proofs.Common.{sym}
-use Rattle.tally.specs.declared.step.Asked.TheVariants.{HoldFrees}
-use Rattle.tally.proofs.Asks.{allowed}
 use Rattle.tally.proofs.Transacts.{frees_sound}
 use Rattle.tally.proofs.Tally.hold_frees.Goals as goal
 
-pub put-requires : goal.put-requires
-put-requires c =
-    let e = sym c.in_ok-change.ensures in
-    record {
-      listed = (allowed c.args.self.now.transactions c.args.t (HoldFrees c.args.count) c.in_ok-change.change e).listed;
-      sound = frees_sound c.args.self.now c.args.t c.args.count c.in_ok-change.change e;
-    }
+pub put-requires-clause-sound : goal.put-requires-clause-sound
+put-requires-clause-sound c = frees_sound c.args.self.now c.args.t c.args.count c.in_ok-change.change (sym c.in_ok-change.ensures)
