@@ -1,15 +1,12 @@
 -- The links of one holder's units: a unit comes to its head or leaves from there, and a unit of others is moved.
-use Rattle.std.proofs.Common.{◌≡◌, ℕ, ◌<◌, ◌≤◌, Bool, true, false, List, [], ◌∷◌, length, get_or, set, sym, refl, ap, ◌∙◌, subst, inl, inr, arith}
+use Rattle.std.proofs.Common.{◌≡◌, ℕ, ◌<◌, Bool, true, false, List, [], ◌∷◌, length, get_or, set, sym, refl, ap, ◌∙◌, subst, inl, inr, arith}
 use Rattle.std.proofs.lemmas.List.{get_or-set_same, get_or-set_other}
 use Rattle.std.proofs.lemmas.Bool.{cases_eq, cases_Bool, true≢false}
 use Rattle.pool.specs.Links.{Apart, Among, Threads}
+use Rattle.pool.specs.Once.{not_among}
 use Rattle.rules.specs.declared.state.Holder.{Holder}
 use Rattle.rules.specs.declared.state.Holder.TheVariants.{Nobody}
 use Rattle.marks.specs.Linked.{Chained}
-
-low : (ls : List ℕ) (n h : ℕ) (xs : List ℕ) → Threads ls n h xs → h ≤ n
-low ls n h [] t = omega (arith, t)
-low ls n h (x ∷ xs) t = omega (arith, t.0, t.1)
 
 threads-set : (ls : List ℕ) (n h : ℕ) (xs : List ℕ) (u v : ℕ) → Apart u xs → Threads ls n h xs → Threads (set ls u v) n h xs
 threads-set ls n h [] u v a t = t
@@ -22,10 +19,6 @@ threads-set ls n h (x ∷ xs) u v a t =
 apart : (xs : List ℕ) (u : ℕ) → (Among u xs → ⊥) → Apart u xs
 apart [] u f = tt
 apart (x ∷ xs) u f = ((λ e. f (inl e)), apart xs u (λ a. f (inr a)))
-
-not_among : (xs : List ℕ) (u : ℕ) → Apart u xs → Among u xs → ⊥
-not_among [] u a m = m
-not_among (x ∷ xs) u a m = elim m [ inl e ↦ a.0 e | inr k ↦ not_among xs u a.1 k ]
 
 module _ (n : ℕ) (hs : List Holder) (next : List ℕ) (p : Holder → Bool) where
   headed : (h : ℕ) (xs : List ℕ) → Threads next n h xs → ((u : ℕ) → Among u xs → p (get_or hs u Nobody) ≡ true) → (h ≡ n → ⊥) →
@@ -99,7 +92,7 @@ module _ (n : ℕ) (hs : List Holder) (next : List ℕ) (p : Holder → Bool) wh
           units = xs;
           threads = threads-set next n (get_or next u 0) xs u v a r;
           own = λ k m. elim (cases_eq k u) [
-            | inl e ↦ let M : ℕ → Type 0 = λ j. Among j xs in absurd (not_among xs u a (subst M e m))
+            | inl e ↦ let M : ℕ → Type 0 = λ j. Among j xs in absurd (not_among u xs a (subst M e m))
             | inr d ↦ set_there k d ∙ own k (inr m)
           ];
           all = λ k s. elim (cases_eq k u) [

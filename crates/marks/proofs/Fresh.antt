@@ -1,20 +1,13 @@
 -- The marks of a pool that has every unit in.
 use Rattle.std.proofs.Common.{◌≡◌, ℕ, zero, suc, ◌+◌, ◌*◌, ◌<◌, ◌≤◌, Bool, false, List, [], ◌∷◌, map, length, get_or, take, replicate, sym, refl, ap, ◌∙◌, subst, arith}
-use Rattle.std.proofs.lemmas.List.{length-replicate, get_or-replicate}
+use Rattle.std.proofs.lemmas.List.{length-replicate, get_or-replicate, take-replicate}
 use Rattle.std.proofs.lemmas.Bool.{true≢false}
-use Rattle.pool.specs.Units.{outs}
-use Rattle.rules.specs.Holders.{same, is_held, is_deferred}
+use Rattle.rules.specs.Holders.{same, is_deferred}
 use Rattle.rules.specs.declared.state.Holder.{Holder}
 use Rattle.rules.specs.declared.state.Holder.TheVariants.{Nobody, Record}
 use Rattle.marks.specs.Linked.{Named, Chained, Linked}
 use Rattle.marks.specs.declared.unit.Unit.{Unit}
-use Rattle.marks.specs.Held.{Held}
 use Rattle.marks.specs.Units.{holders_in, nexts_in}
-
-take-replicate : {X : Type 0} (n m : ℕ) (x : X) → n ≤ m → take n (replicate m x) ≡ replicate n x
-take-replicate zero m x l = refl
-take-replicate (suc n) zero x l = absurd (omega arith)
-take-replicate {X} (suc n) (suc m) x l = ap (λ (xs : List X). x ∷ xs) (take-replicate n m x (omega arith))
 
 map-replicate : {X Y : Type 0} (f : X → Y) (n : ℕ) (x : X) → map f (replicate n x) ≡ replicate n (f x)
 map-replicate f zero x = refl
@@ -24,10 +17,6 @@ all_same : {X : Type 0} (n u : ℕ) (x : X) → get_or (replicate n x) u x ≡ x
 all_same zero u x = refl
 all_same (suc n) zero x = refl
 all_same (suc n) (suc u) x = all_same n u x
-
-none_out : (n : ℕ) → outs (replicate n false) ≡ 0
-none_out zero = refl
-none_out (suc n) = none_out n
 
 -- so many units, and none out
 pub all_in : (us : List Bool) (n : ℕ) → us ≡ replicate n false → us ≡ replicate (length us) false
@@ -68,11 +57,3 @@ module _ (n : ℕ) (few : n ≤ 4096) where
       rw (fresh-rows, map-replicate (λ (x : Unit). x.next) 4096 (record { holder = Nobody; next = n }))
       (fresh-linked n (replicate n Nobody) (replicate 4096 n) (replicate 4096 n) n (length-replicate n Nobody) (length-replicate 4096 n) (length-replicate 4096 n)
       (λ u. all_same n u Nobody) (λ k b. get_or-replicate 4096 k n 0 b) refl)
-
--- no unit is out, and none has a holder
-pub fresh_held : (us : List Bool) (hs : List Holder) (n : ℕ) → us ≡ replicate n false → hs ≡ replicate n Nobody → Held us hs
-fresh_held us hs n eu eh =
-    λ u. ap (λ (l : List Bool). get_or l u false) eu ∙ all_same n u false ∙ sym (ap (λ (l : List Holder). is_held (get_or l u Nobody)) eh ∙ ap is_held (all_same n u Nobody))
-
-pub fresh_outs : (us : List Bool) (n : ℕ) → us ≡ replicate n false → outs us ≡ 0
-fresh_outs us n e = ap outs e ∙ none_out n

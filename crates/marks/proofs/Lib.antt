@@ -1,5 +1,4 @@
 pub mod Chains
-pub mod Defers
 pub mod Fresh
 pub mod Moves
 pub mod Returns

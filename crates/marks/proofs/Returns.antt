@@ -1,5 +1,5 @@
 -- Deferred units are given back one by one.
-use Rattle.std.proofs.Common.{◌≡◌, ℕ, ◌+◌, ◌-◌, ◌<◌, ◌≤◌, Bool, true, false, not, ◌&&◌, Some, None, Err, List, map, length, get_or, set, count_by, sym, refl, ap, ◌∙◌, inl, inr, arith}
+use Rattle.std.proofs.Common.{◌≡◌, ℕ, ◌+◌, ◌<◌, Bool, true, false, not, ◌&&◌, Some, None, Err, List, map, length, get_or, set, count_by, sym, refl, ap, ◌∙◌, inl, inr, arith}
 use Rattle.std.proofs.lemmas.List.FromFn.{length-map-range_with_len, get_or-map-range_with_len}
 use Rattle.std.proofs.lemmas.List.{length-set, get_or-set_same, get_or-set_other, ext_get_or}
 use Rattle.std.proofs.lemmas.Bool.{cases_eq, true≢false, and_left, and_right}
@@ -71,26 +71,6 @@ returned-none us hs none =
 module _ (us : List Bool) (hs : List Holder) (u : ℕ) (held : Held us hs) (d : is_deferred (get_or hs u Nobody) ≡ true) where
   pub is_out : get_or us u false ≡ true
   is_out = held u ∙ held-deferred (get_or hs u Nobody) d
-
-  pub some_out : 1 ≤ outs us
-  some_out = omega (arith, outs_given us u is_out)
-
-  pub gave_held : (vs : List Bool) (ks : List Holder) → length us ≡ length hs → vs ≡ set us u false → ks ≡ set hs u Nobody → Held vs ks
-  gave_held vs ks long eu eh =
-      let lu : u < length us = within us u is_out in
-      let l : u < length hs = omega (arith, long) in
-      λ k.
-      ap (λ (x : List Bool). get_or x k false) eu
-      ∙ elim (cases_eq k u) as (λ _. get_or (set us u false) k false ≡ is_held (get_or (set hs u Nobody) k Nobody)) [
-        | inl q ↦
-            ap (λ (j : ℕ). get_or (set us u false) j false) q ∙ get_or-set_same us u false false lu
-            ∙ sym (ap (λ (j : ℕ). is_held (get_or (set hs u Nobody) j Nobody)) q ∙ ap is_held (get_or-set_same hs u Nobody Nobody l))
-        | inr ne ↦ get_or-set_other us u k false false ne ∙ held k ∙ ap is_held (sym (get_or-set_other hs u k Nobody Nobody ne))
-      ]
-      ∙ ap (λ (x : List Holder). is_held (get_or x k Nobody)) (sym eh)
-
-  pub gave_counted : (n : ℕ) (vs : List Bool) → n ≡ outs us → vs ≡ set us u false → n - 1 ≡ outs vs
-  gave_counted n vs e eu = omega (arith, ap outs eu, outs_given us u is_out)
 
 -- where the unit is out, a refusal is false
 pub not_in : (us vs : List Bool) (u : ℕ) (f : AllocatorFault) → Gave us vs u (Err f) → get_or us u false ≡ true → ⊥

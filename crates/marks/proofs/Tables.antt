@@ -1,7 +1,6 @@
 -- What the calls of a table do to its rows, and that they keep it well made.
-use Rattle.std.proofs.Common.{◌≡◌, ℕ, ◌+◌, ◌*◌, ◌<◌, ◌≤◌, Bool, true, false, Some, None, List, map, length, get_or, take, set, count_by, sym, refl, ap, ◌∙◌, subst, inl, inr, arith}
-use Rattle.std.proofs.lemmas.List.{get_or-take, get_or_past, length-map, map-set, set-get_or}
-use Rattle.std.proofs.lemmas.List.Sums.{count_by-le-length}
+use Rattle.std.proofs.Common.{◌≡◌, ℕ, ◌+◌, ◌*◌, ◌<◌, true, false, Some, None, List, map, length, get_or, take, set, sym, refl, ap, ◌∙◌, subst, inl, inr, arith}
+use Rattle.std.proofs.lemmas.List.{map-set, set-get_or}
 use Rattle.std.proofs.lemmas.Bool.{cases_Bool, cond-true, cond-false}
 use Rattle.rules.specs.Holders.{same, count, is_deferred, defer}
 use Rattle.rules.specs.declared.state.Holder.{Holder}
@@ -9,22 +8,11 @@ use Rattle.rules.specs.declared.state.Holder.TheVariants.{Nobody, Record, Deferr
 use Rattle.marks.specs.declared.table.Table.{Table}
 use Rattle.marks.specs.declared.unit.Unit.{Unit}
 use Rattle.marks.specs.Linked.{Named, Linked}
-use Rattle.marks.specs.Tabled.{Tabled, rows_of, Shifted}
+use Rattle.marks.specs.Tabled.{rows_of, Shifted}
 use Rattle.marks.specs.Units.{holders_in, nexts_in}
 use Rattle.marks.proofs.Chains.{head_own, none-own}
 use Rattle.marks.proofs.Moves.{same_self, same_true, to_record, record_head, to_deferred, to_nobody}
 use Rattle.marks.proofs.Rows.{map_at, take_set_at, moved-one, moved_none}
-
--- every table is well made
-pub tabled : (t : Table) → Tabled t
-tabled t = record { small = t.small; whole = sym (length-map t.units (λ x. x.next)) ∙ t.linked.wide; linked = t.linked }
-
-pub row_at : (t : Table) (u : ℕ) (d : Unit) → d.holder ≡ Nobody → u < t.size → (get_or t.units u d).holder ≡ get_or (rows_of t) u Nobody
-row_at t u d e l =
-    sym (map_at (λ (x : Unit). x.holder) t.units u d) ∙ ap (get_or (holders_in t.units) u) e ∙ sym (get_or-take t.size (holders_in t.units) u Nobody l)
-
-pub row-past : (t : Table) (u : ℕ) → t.size ≤ u → Nobody ≡ get_or (rows_of t) u Nobody
-row-past t u l = sym (get_or_past (rows_of t) u Nobody (omega (arith, t.linked.long)))
 
 -- the entry `a` of a unit, and the entry `i` of a record's head
 module _ (t : Table) (a : ℕ) where
@@ -135,6 +123,3 @@ pub deferring_none : (v r : ℕ) (t : Table) → (v < 64 → r < 64 → ⊥) →
 deferring_none v r t f =
     let m = moved_none (defer v r) (same (Record v r)) Nobody (undeferred v r) (rows_of t) (λ u. unnamed v r (get_or (rows_of t) u Nobody) (t.linked.named u) f) in
     (sym m.0, sym m.1)
-
-pub few-rows : (p : Holder → Bool) (t : Table) → count_by p (rows_of t) ≤ 4096
-few-rows p t = omega (arith, count_by-le-length p (rows_of t), t.linked.long, t.small)

@@ -2,8 +2,8 @@
 use Rattle.std.proofs.Common.{◌≡◌, ℕ, ◌+◌, ◌<◌, ◌≤◌, Bool, true, false, cond, ◌&&◌, ltb, leb, List, length, get_or, set, Ok, Err, count_by, sym, refl, ap, ◌∙◌, inl, inr, arith}
 use Rattle.std.proofs.lemmas.List.FromFn.{length-map-range_with_len, get_or-map-range_with_len}
 use Rattle.std.proofs.lemmas.List.{length-set, get_or-set_same, get_or-set_other, ext_get_or}
-use Rattle.std.proofs.lemmas.List.Sums.{sum_by-set, count_by-le-length}
-use Rattle.std.proofs.lemmas.Bool.{cases_eq, cases_lt, true≢false, cond-true, cond-false, and_from, and_left, and_right, lt-ltb, le-ltb, le-leb, lt-leb}
+use Rattle.std.proofs.lemmas.List.Sums.{sum_by-set}
+use Rattle.std.proofs.lemmas.Bool.{cases_eq, true≢false, cond-true, and_from, lt-ltb, le-leb}
 use Rattle.pool.specs.declared.allocator.Allocator.{Ghosts}
 use Rattle.pool.specs.declared.allocator.AllocatorFault.{AllocatorFault}
 use Rattle.pool.specs.Units.{outs, Took}
@@ -104,22 +104,6 @@ module _ (us vs : List Bool) (hs : List Holder) (u : ℕ) (held : Held us hs) (t
   pub free-row : get_or hs u Nobody ≡ Nobody
   free-row = nobody (get_or hs u Nobody) (sym (held u) ∙ t.1)
 
-  pub took-held : (ks : List Holder) (h : Holder) → is_held h ≡ true → length us ≡ length hs → ks ≡ set hs u h → Held vs ks
-  took-held ks h is long e =
-      let l : u < length hs = omega (arith, t.0, long) in
-      λ k.
-      ap (λ (x : List Bool). get_or x k false) t.2
-      ∙ elim (cases_eq k u) as (λ _. get_or (set us u true) k false ≡ is_held (get_or (set hs u h) k Nobody)) [
-        | inl q ↦
-            ap (λ (j : ℕ). get_or (set us u true) j false) q ∙ get_or-set_same us u true false t.0
-            ∙ sym (ap (λ (j : ℕ). is_held (get_or (set hs u h) j Nobody)) q ∙ ap is_held (get_or-set_same hs u h Nobody l) ∙ is)
-        | inr ne ↦ get_or-set_other us u k true false ne ∙ held k ∙ ap is_held (sym (get_or-set_other hs u k h Nobody ne))
-      ]
-      ∙ ap (λ (x : List Holder). is_held (get_or x k Nobody)) (sym e)
-
-  pub took-counted : (n : ℕ) → n ≡ outs us → n + 1 ≡ outs vs
-  took-counted n e = omega (arith, ap outs t.2, outs-taken us u t.0 t.1)
-
 -- as many units as holders
 pub matching : {A : Type 0} {G : Ghosts A} (m : Marks A G) → length (G.units (pool_of m)) ≡ length (holders_of m)
 matching m = m.sized ∙ sym m.table.linked.long
@@ -151,24 +135,10 @@ taking-more {G = G} v r i u m₀ m m' w t e es el =
 pub not_full : (us vs : List Bool) (f : AllocatorFault) → Took us vs (Err f) → outs us < length us → ⊥
 not_full us vs f t l = omega (arith, outs-all us t.1)
 
-pub out_within : (us : List Bool) → outs us ≤ length us
-out_within us = count_by-le-length (λ (b : Bool). b) us
-
 -- what `take` answers
 module _ (v r n : ℕ) (us : List Bool) where
-  pub answer-none : (v < 64 → r < 64 → ⊥) → Err (NoSuchRecord v r) ≡ take_answer v r n us
-  answer-none f =
-      let e : (ltb v 64 && ltb r 64) ≡ false = elim (cases_lt v 64) [
-        | inl lv ↦ elim (cases_lt r 64) [ inl lr ↦ absurd (f lv lr) | inr gr ↦ and_right (ltb v 64) (ltb r 64) (le-ltb r 64 gr) ]
-        | inr gv ↦ and_left (ltb v 64) (ltb r 64) (le-ltb v 64 gv)
-      ] in
-      sym (cond-false (ltb v 64 && ltb r 64) _ (Err (NoSuchRecord v r)) e)
-
   within : v < 64 → r < 64 → take_answer v r n us ≡ cond (leb (outs us + n) (length us)) (Ok tt) (Err AllOut)
   within lv lr = cond-true (ltb v 64 && ltb r 64) _ (Err (NoSuchRecord v r)) (and_from (ltb v 64) (ltb r 64) (lt-ltb v 64 lv) (lt-ltb r 64 lr))
-
-  pub answer_out : v < 64 → r < 64 → length us < outs us + n → Err AllOut ≡ take_answer v r n us
-  answer_out lv lr l = sym (within lv lr ∙ cond-false _ (Ok tt) (Err AllOut) (lt-leb (outs us + n) (length us) l))
 
   pub answer_ok : v < 64 → r < 64 → outs us + n ≤ length us → Ok tt ≡ take_answer v r n us
   answer_ok lv lr l = sym (within lv lr ∙ cond-true _ (Ok tt) (Err AllOut) (le-leb (outs us + n) (length us) l))

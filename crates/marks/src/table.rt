@@ -14,9 +14,10 @@ use rules::state::Holder;
 const ENTRIES: usize = 4096;
 
 /// Units below the size. From a record's head, and from the head of the deferred units, each unit's `next` goes on
-/// through the units of that holder; the size ends a list.
+/// through the units of that holder.
 #[derive(Drop)]
 pub struct Table {
+    // also the end of a list: an `Option<u16>` in each entry would take twice the memory, and the table is a fixed one
     size: u16,
     units: [Unit; ENTRIES],
     // the head of each record's units, at its place's index

@@ -1,27 +1,10 @@
-use Rattle.std.proofs.Common.{◌≡◌, ◌+◌, arith}
-use Rattle.rules.specs.Holders.{same, count}
-use Rattle.rules.specs.declared.state.Holder.TheVariants.{Record}
-use Rattle.marks.specs.Tabled.{rows_of}
-use Rattle.marks.proofs.Tables.{Deferring, few-rows, deferring_more, deferring_end, deferring_none}
+use Rattle.marks.proofs.Tables.{deferring_more, deferring_end, deferring_none}
 use Rattle.marks.proofs.table.Table.defer.Goals as goal
 
--- one turn: one more is deferred, one fewer is the record's
-step : (c : goal.In-Some-shift) → Deferring c.in-Some.place.volume c.in-Some.place.number (c.loop-moved.moved + 1) c.args.self.now c.shift.new.self
-    × (count (Record c.in-Some.place.volume c.in-Some.place.number) (rows_of c.shift.new.self) + 1 ≡ count (Record c.in-Some.place.volume c.in-Some.place.number) (rows_of c.loop-moved.self))
-step c =
-    let e = c.in-Some-shift.ensures in
-    deferring_more c.in-Some.place.volume c.in-Some.place.number c.loop-moved.moved c.in-Some-shift.field-0 c.args.self.now c.loop-moved.self c.shift.new.self c.loop-moved.invariant e.shifted e.sized
-
-pub overflow_add-moved : goal.overflow_add-moved
-overflow_add-moved c =
-    let s = step c in
-    omega (arith, s.1, c.loop-moved.invariant.many, few-rows (same (Record c.in-Some.place.volume c.in-Some.place.number)) c.args.self.now)
-
-pub loop-moved-smaller : goal.loop-moved-smaller
-loop-moved-smaller c = let s = step c in omega (arith, s.1)
-
 pub loop-moved-preserved : goal.loop-moved-preserved
-loop-moved-preserved c = (step c).0
+loop-moved-preserved c =
+    let e = c.in-Some-shift.ensures in
+    (deferring_more c.in-Some.place.volume c.in-Some.place.number c.loop-moved.moved c.in-Some-shift.field-0 c.args.self.now c.loop-moved.self c.shift.new.self c.loop-moved.invariant e.shifted e.sized).0
 
 pub returns-in_default-clause-rows : goal.returns-in_default-clause-rows
 returns-in_default-clause-rows c = (deferring_none c.args.volume c.args.number c.args.self.now c.in_default.ensures).0
