@@ -1,13 +1,7 @@
-use Rattle.std.proofs.Common.{◌≡◌, ℕ, ◌+◌, List, [], ◌∷◌, ◌++◌, length, sym, ap, ◌∙◌, arith, length-append}
+use Rattle.std.proofs.Common.{◌≡◌, ℕ, ◌+◌, List, [], ◌∷◌, ◌++◌, length, sym, ap, ◌∙◌, arith}
 use Rattle.orders.specs.Layout.{laid}
 use Rattle.orders.proofs.Laid.{laid_++}
 use Rattle.orders.proofs.encode.lay_told.Goals as goal
-
-pub lay-requires-2 : goal.lay-requires-2
-lay-requires-2 c = omega (arith, simp length-append at c.requires)
-
-pub lay-requires-3 : goal.lay-requires-3
-lay-requires-3 c = omega (arith, simp length-append at c.requires)
 
 -- the kind, then the name, then the counts
 in_parts :
