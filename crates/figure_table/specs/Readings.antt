@@ -13,6 +13,7 @@ use Rattle.figure_table.specs.Texts.{policy_text, question_text, outcome_text, f
 abbrev pub ReadsByte : List ℕ → Option (ℕ × Bor (List ℕ)) → Type 0
 ReadsByte text o = (n : ℕ) (after : List ℕ) → n < 2 ^ 8 → text ≡ decimal n ++ (32 ∷ after) → IsSomeAnd o (λ r. (r.0 ≡ n) × (r.1.now ≡ after))
 
+-- a number that is the whole text
 abbrev pub ReadsNumber : List ℕ → Option ℕ → Type 0
 ReadsNumber text o = (n : ℕ) → n < 2 ^ 16 → text ≡ decimal n → o ≡ Some n
 
