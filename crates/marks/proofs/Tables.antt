@@ -42,9 +42,9 @@ module _ (t : Table) (a : ℕ) where
       Linked t.size (take t.size (holders_in (set t.units a x))) (nexts_in (set t.units a x)) t.first (get_or t.units a d).next
   released d z e ne =
       let x : Unit = record { holder = Nobody; next = (get_or t.units a d).next } in
-      let same-nexts : nexts_in (set t.units a x) ≡ nexts_in t.units =
+      let same_nexts : nexts_in (set t.units a x) ≡ nexts_in t.units =
       nexts-set a x refl ∙ ap (set (nexts_in t.units) a) (sym (next_at d z)) ∙ set-get_or (nexts_in t.units) a 0 in
-      rw (rows-set t.deferred x e, same-nexts, sym (next_at d z), e) (to_nobody t.size (rows_of t) (nexts_in t.units) t.first t.deferred t.linked t.small ne)
+      rw (rows-set t.deferred x e, same_nexts, sym (next_at d z), e) (to_nobody t.size (rows_of t) (nexts_in t.units) t.first t.deferred t.linked t.small ne)
 
   -- the unit at the head of a record is deferred
   pub shifted : (u v r i : ℕ) (d : Unit) → d.next ≡ 0 → a ≡ u → i ≡ v * 64 + r → u ≡ get_or t.first i 0 → (v < 64) × (r < 64) → (u ≡ t.size → ⊥) →
@@ -74,8 +74,8 @@ module _ (t : Table) (u v r i : ℕ) (h : u ≡ get_or t.first i 0) (f : i ≡ v
   pub head_fits : (a : ℕ) → a ≡ u → (u ≡ t.size → ⊥) → a < 4096
   head_fits a e ne = let o = head_of ne in omega (arith, o.0, t.small)
 
-  pub none-of : u ≡ t.size → (k : ℕ) → same (Record v r) (get_or (rows_of t) k Nobody) ≡ false
-  none-of e = none-own t.size (rows_of t) (nexts_in t.units) (same (Record v r)) _ (t.linked.records v r named.0 named.1) (sym head ∙ e)
+  pub none_of : u ≡ t.size → (k : ℕ) → same (Record v r) (get_or (rows_of t) k Nobody) ≡ false
+  none_of e = none-own t.size (rows_of t) (nexts_in t.units) (same (Record v r)) _ (t.linked.records v r named.0 named.1) (sym head ∙ e)
 
 -- a record's units are deferred one by one
 pub record Deferring (v r k : ℕ) (t₀ t : Table) : Type 0 where

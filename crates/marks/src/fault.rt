@@ -17,10 +17,7 @@ impl MarksFault {
         ensures { result ≡ (ground self).0 }
     {
         match self {
-            MarksFault::NoSuchRecord {
-                volume: _,
-                number: _,
-            } => 9,
+            MarksFault::NoSuchRecord { .. } => 9,
             MarksFault::AllOut => 18,
         }
     }

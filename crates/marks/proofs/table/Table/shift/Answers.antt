@@ -1,9 +1,9 @@
 use Rattle.std.proofs.Common.{refl}
-use Rattle.marks.proofs.Tables.{head_of, head_fits, none-of, rows-set, shifted}
+use Rattle.marks.proofs.Tables.{head_of, head_fits, none_of, rows-set, shifted}
 use Rattle.marks.proofs.table.Table.shift.Goals as goal
 
 pub returns-then-unit-self-clause-shifted : goal.returns-then-unit-self-clause-shifted
-returns-then-unit-self-clause-shifted c = (none-of c.args.self.now _ c.args.place.volume c.args.place.number c.index-i.result refl c.index-i.ensures c.args.place.named c.if-unit-self.true, refl)
+returns-then-unit-self-clause-shifted c = (none_of c.args.self.now _ c.args.place.volume c.args.place.number c.index-i.result refl c.index-i.ensures c.args.place.named c.if-unit-self.true, refl)
 
 pub bounds-self-at : goal.bounds-self-at
 bounds-self-at c = head_fits c.args.self.now _ c.args.place.volume c.args.place.number c.index-i.result refl c.index-i.ensures c.args.place.named c.from-at.result c.from-at.ensures c.if-unit-self.false
