@@ -87,7 +87,7 @@ pub record Returning {A : Type 0} {G : Ghosts A} (k : ℕ) (m₀ m : Marks A G) 
 
 module _ {A : Type 0} {G : Ghosts A} (k : ℕ) (m₀ m m' : Marks A G) (w : Returning k m₀ m) (es : size_of m' ≡ size_of m) (el : G.lent (pool_of m') ≡ G.lent (pool_of m)) where
   pub returning_more : (u : ℕ) → GaveOne G.units m m' (Some u) →
-      Returning (k + 1) m₀ m' × (count_by is_deferred (holders_of m') + 1 ≡ count_by is_deferred (holders_of m))
+      Returning (k + 1) m₀ m'
   returning_more u gave =
       let us = G.units (pool_of m) in
       let hs = holders_of m in
@@ -95,17 +95,15 @@ module _ {A : Type 0} {G : Ghosts A} (k : ℕ) (m₀ m m' : Marks A G) (w : Retu
       let lu : u < length us = within us u o in
       let l : u < length hs = omega (arith, matching m) in
       let one = moved-one release is_deferred hs u Nobody Nobody l (release-deferred (get_or hs u Nobody) gave.0) gave.0 refl in
-      let c : count_by is_deferred (holders_of m') + 1 ≡ count_by is_deferred hs = ap (λ (x : List Holder). count_by is_deferred x + 1) gave.1 ∙ one.1 in (
-        record {
-          rows = ap (map release) gave.1 ∙ one.0 ∙ w.rows;
-          units = ap (λ (x : List Bool). returned x (holders_of m')) gave.2 ∙ ap (returned (set us u false)) gave.1 ∙ returned-more us hs u lu gave.0 ∙ w.units;
-          many = omega (arith, w.many);
-          fewer = omega (arith, w.fewer, ap outs gave.2, outs_given us u o);
-          sized = es ∙ w.sized;
-          lent = el ∙ w.lent;
-        },
-        c,
-      )
+      let c : count_by is_deferred (holders_of m') + 1 ≡ count_by is_deferred hs = ap (λ (x : List Holder). count_by is_deferred x + 1) gave.1 ∙ one.1 in
+      record {
+        rows = ap (map release) gave.1 ∙ one.0 ∙ w.rows;
+        units = ap (λ (x : List Bool). returned x (holders_of m')) gave.2 ∙ ap (returned (set us u false)) gave.1 ∙ returned-more us hs u lu gave.0 ∙ w.units;
+        many = omega (arith, w.many);
+        fewer = omega (arith, w.fewer, ap outs gave.2, outs_given us u o);
+        sized = es ∙ w.sized;
+        lent = el ∙ w.lent;
+      }
 
   pub returning_end : GaveOne G.units m m' None → (holders_of m' ≡ map release (holders_of m₀)) × (G.units (pool_of m') ≡ returned (G.units (pool_of m₀)) (holders_of m₀))
       × (k ≡ count_by is_deferred (holders_of m₀)) × (outs (G.units (pool_of m')) + k ≡ outs (G.units (pool_of m₀)))

@@ -84,20 +84,18 @@ pub record Deferring (v r k : ℕ) (t₀ t : Table) : Type 0 where
   pub sized : t.size ≡ t₀.size
 
 pub deferring_more : (v r k u : ℕ) (t₀ t t' : Table) → Deferring v r k t₀ t → Shifted v r t t' (Some u) → t'.size ≡ t.size →
-    Deferring v r (k + 1) t₀ t' × (count (Record v r) (rows_of t') + 1 ≡ count (Record v r) (rows_of t))
+    Deferring v r (k + 1) t₀ t'
 deferring_more v r k u t₀ t t' w s es =
     let inside : u < length (rows_of t) = omega (arith, t.linked.long, s.0) in
     let becomes : defer v r (get_or (rows_of t) u Nobody) ≡ Deferred v = ap (defer v r) s.1 ∙ cond-true _ (Deferred v) (Record v r) (same_self v r) in
     let was : same (Record v r) (get_or (rows_of t) u Nobody) ≡ true = ap (same (Record v r)) s.1 ∙ same_self v r in
     let m = moved-one (defer v r) (same (Record v r)) (rows_of t) u (Deferred v) Nobody inside (sym becomes) was refl in
-    let c : count (Record v r) (rows_of t') + 1 ≡ count (Record v r) (rows_of t) = ap (λ (l : List Holder). count (Record v r) l + 1) s.2 ∙ m.1 in (
-      record {
-        rows = ap (map (defer v r)) s.2 ∙ m.0 ∙ w.rows;
-        many = omega (arith, w.many);
-        sized = es ∙ w.sized;
-      },
-      c,
-    )
+    let c : count (Record v r) (rows_of t') + 1 ≡ count (Record v r) (rows_of t) = ap (λ (l : List Holder). count (Record v r) l + 1) s.2 ∙ m.1 in
+    record {
+      rows = ap (map (defer v r)) s.2 ∙ m.0 ∙ w.rows;
+      many = omega (arith, w.many);
+      sized = es ∙ w.sized;
+    }
 
 undeferred : (v r : ℕ) (h : Holder) → same (Record v r) h ≡ false → defer v r h ≡ h
 undeferred v r h e = cond-false (same (Record v r) h) (Deferred v) h e

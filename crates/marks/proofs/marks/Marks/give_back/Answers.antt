@@ -5,7 +5,7 @@ use Rattle.marks.proofs.marks.Marks.give_back.Goals as goal
 pub loop-given-preserved : goal.loop-given-preserved
 loop-given-preserved g c =
     let e = c.in-Some.ensures in
-    (returning_more c.loop-given.given c.args.self.now c.loop-given.self c.give_one.new.self c.loop-given.invariant e.sized e.lent c.in-Some.field-0 e.gave).0
+    returning_more c.loop-given.given c.args.self.now c.loop-given.self c.give_one.new.self c.loop-given.invariant e.sized e.lent c.in-Some.field-0 e.gave
 
 pub returns : goal.returns
 returns g c =

@@ -4,7 +4,7 @@ use Rattle.marks.proofs.table.Table.defer.Goals as goal
 pub loop-moved-preserved : goal.loop-moved-preserved
 loop-moved-preserved c =
     let e = c.in-Some-shift.ensures in
-    (deferring_more c.in-Some.place.volume c.in-Some.place.number c.loop-moved.moved c.in-Some-shift.field-0 c.args.self.now c.loop-moved.self c.shift.new.self c.loop-moved.invariant e.shifted e.sized).0
+    deferring_more c.in-Some.place.volume c.in-Some.place.number c.loop-moved.moved c.in-Some-shift.field-0 c.args.self.now c.loop-moved.self c.shift.new.self c.loop-moved.invariant e.shifted e.sized
 
 pub returns-in_default-clause-rows : goal.returns-in_default-clause-rows
 returns-in_default-clause-rows c = (deferring_none c.args.volume c.args.number c.args.self.now c.in_default.ensures).0
