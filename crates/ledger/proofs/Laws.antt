@@ -6,7 +6,6 @@ use mathlib.Core.HLevel.{is_prop→PathP}
 use native.Mathlib.Nat.{ℕ_set}
 use Rattle.pool.specs.declared.allocator.Allocator.{Ghosts as AllocatorMembers}
 use Rattle.costs.specs.declared.policy.CostPolicy.{Ghosts as PolicyMembers}
-use Rattle.costs.specs.Costs.{Bounded}
 use Rattle.orders.specs.declared.answer.Answer.{Answer}
 use Rattle.orders.specs.declared.answer.Answer.TheVariants.{Done, Refused, Told, Stopped}
 use Rattle.orders.specs.Meaning.{Meaning}
@@ -29,7 +28,7 @@ use Rattle.tally.specs.Parts.{book_of as book_in, figures_of, Left, Did as Tally
 use Rattle.tally.proofs.Sounds.{shaped}
 use Rattle.ledger.specs.declared.Ledger.{Ledger}
 use Rattle.ledger.specs.Joined.{figures_in, StandsIn, SoundIn}
-use Rattle.ledger.specs.Parts.{book_of, holders_of, pool_of, units_of, lent_of, figures, Stands, Sound, Untouched, MarksLeft, PoolKept, DidTo}
+use Rattle.ledger.specs.Parts.{book_of, holders_of, pool_of, units_of, figures, Stands, Untouched, PoolKept, DidTo}
 use Rattle.ledger.proofs.Once.{accounted_once, summed_once}
 
 marked_by : (b : Book) (m : Meaning) (a : Answer) (us : List Bool) (hs : List Holder) → mark b m us us hs ≡ hs → hs ≡ holders_after b m a us us hs
@@ -44,11 +43,17 @@ moved_by F m (Refused f) us hs e = refl
 moved_by F m (Told f) us hs e = refl
 moved_by F m (Stopped n p) us hs e = refl
 
-left_by : {A : Type 0} {gA : AllocatorMembers A} (ms : Marks A gA) (a : Answer) → MarksLeft ms ms a
-left_by ms (Done v) = tt
-left_by ms (Refused f) = refl
-left_by ms (Told f) = refl
-left_by ms (Stopped n p) = refl
+left_by : {X : Type 0} (x : X) (a : Answer) → Untouched x x a
+left_by x (Done v) = tt
+left_by x (Refused f) = refl
+left_by x (Told f) = refl
+left_by x (Stopped n p) = refl
+
+tally_left_by : (t t' : Tally) (a : Answer) → Left t t' a → Untouched t t' a
+tally_left_by t t' (Done v) e = tt
+tally_left_by t t' (Refused f) e = e
+tally_left_by t t' (Told f) e = e
+tally_left_by t t' (Stopped n p) e = e
 
 module _ {A P : Type 0} {gA : AllocatorMembers A} {gP : PolicyMembers P} where
   pub worst_is : (l : Ledger A P gA gP) → l.tally.worst ≡ gP.worst l.policy
@@ -130,7 +135,7 @@ module _ {A P : Type 0} {gA : AllocatorMembers A} {gP : PolicyMembers P} where
     sound = is_prop→PathP (λ j. ∥ SoundIn gA gP (t j) (m j) (p j) ∥₁) (λ j. ∥∥₁_prop) l'.sound l.sound i;
   }
 
-  pub untouched_by : (l l' : Ledger A P gA gP) (a : Answer) → Left l.tally l'.tally a → MarksLeft l.marks l'.marks a → l'.policy ≡ l.policy → Untouched l l' a
+  pub untouched_by : (l l' : Ledger A P gA gP) (a : Answer) → Untouched l.tally l'.tally a → Untouched l.marks l'.marks a → l'.policy ≡ l.policy → Untouched l l' a
   untouched_by l l' (Done v) t m p = tt
   untouched_by l l' (Refused f) t m p = unchanged l l' t m p
   untouched_by l l' (Told f) t m p = unchanged l l' t m p
@@ -150,11 +155,16 @@ module _ {A P : Type 0} {gA : AllocatorMembers A} {gP : PolicyMembers P} where
         booked = d.booked (gP.cost l.policy) ∙ ap (λ (F : Figures). book_after F (book_of l) m a) (figures_tally l);
         marked = marked_by (book_of l) m a (units_of l) (holders_of l) still;
         moved = moved_by (figures l) m a (units_of l) (holders_of l) moves;
-        left = d.left;
+        tally_left = tally_left_by l.tally t a d.left;
         marks_left = left_by l.marks a;
         pool_kept = kept;
         lent = refl;
       }
+
+  pub plain_kept : (l : Ledger A P gA gP) (t : Tally) (m : Meaning) (a : Answer) → Fits m → TallyDid l.tally t m a →
+      mark (book_of l) m (units_of l) (units_of l) (holders_of l) ≡ holders_of l → Moves (figures l) m (holders_of l) (units_of l) (units_of l) →
+      PoolKept m (pool_of l) (pool_of l) → ∥ SoundIn gA gP t l.marks l.policy ∥₁
+  plain_kept l t m a fits d still moves pool = kept l t l.marks l.policy m a (plain l t m a fits d still moves pool)
 
 -- a new ledger
 module _ {A P : Type 0} (gA : AllocatorMembers A) (gP : PolicyMembers P) (size slop : ℕ) (tally : Tally) (marks : Marks A gA) (policy : P) (some : 1 ≤ size) (few : size ≤ 4096) (below : slop < size)

@@ -4,7 +4,7 @@ use Rattle.pool.specs.declared.allocator.Allocator.{Ghosts as AllocatorMembers}
 use Rattle.costs.specs.declared.policy.CostPolicy.{Ghosts as PolicyMembers}
 use Rattle.orders.specs.declared.answer.Answer.TheVariants.{Done, Refused}
 use Rattle.orders.specs.declared.answer.Refusal.{Refusal}
-use Rattle.orders.specs.Meaning.{Meaning, folder, volume, quota, reserve, resize, begin, hold_writes, hold_frees, assign, abort, write, free, commit, turn, tell}
+use Rattle.orders.specs.Meaning.{Meaning, resize, write, free, turn}
 use Rattle.pool.specs.Units.{outs}
 use Rattle.rules.specs.declared.state.Holder.{Holder}
 use Rattle.rules.specs.declared.state.Holder.TheVariants.{Record}
@@ -28,21 +28,9 @@ use Rattle.ledger.specs.Parts.{book_of, holders_of, pool_of, units_of, lent_of, 
 use Rattle.ledger.proofs.Laws.{worst_is, size_is, sane, fair, figures_tally}
 
 pool_same : {A : Type 0} (m : Meaning) (p : A) → PoolKept m p p
-pool_same (folder p n) x = refl
-pool_same (volume p r n) x = refl
-pool_same (quota d u) x = refl
-pool_same (reserve d u) x = refl
-pool_same (resize v n) x = refl
-pool_same (begin t v) x = refl
-pool_same (hold_writes t n) x = refl
-pool_same (hold_frees t n) x = refl
-pool_same (assign t) x = refl
-pool_same (abort t) x = refl
 pool_same (write t r s) x = tt
-pool_same (free t r) x = refl
-pool_same (commit t) x = refl
 pool_same turn x = tt
-pool_same (tell d) x = refl
+pool_same _ x = refl
 
 -- one record more
 defer-suc : (v r n : ℕ) (hs : List Holder) → defer_from v r (suc n) hs ≡ map (defer v (r + n)) (defer_from v r n hs)
@@ -81,7 +69,7 @@ module _ {A P : Type 0} {gA : AllocatorMembers A} {gP : PolicyMembers P} where
         booked = ap book_in d.left;
         marked = refl;
         moved = refl;
-        left = d.left;
+        tally_left = d.left;
         marks_left = refl;
         pool_kept = pool_same m (pool_of l);
         lent = refl;
@@ -109,7 +97,7 @@ module _ {A P : Type 0} {gA : AllocatorMembers A} {gP : PolicyMembers P} where
         booked = d.booked (gP.cost l.policy) ∙ ap (λ (F : Figures). book_after F (book_of l) m (Done k)) (figures_tally l);
         marked = marked;
         moved = moves;
-        left = d.left;
+        tally_left = d.left;
         marks_left = tt;
         pool_kept = kept;
         lent = lent;
@@ -180,7 +168,7 @@ module _ {A P : Type 0} {gA : AllocatorMembers A} {gP : PolicyMembers P} where
           booked = booked (gP.cost l.policy) s (sym costs) ∙ ap (λ (F : Figures). next F (book_of l) (write x r s)) (figures_tally l);
           marked = took'.marks ∙ ap (λ (w : ℕ). handed (Record w r) us vs (map (defer w r) (holders_of l))) accepts.volume_is;
           moved = record { as_many = took'.long; stay_out = took'.stays; counted = took'.more ∙ ap (λ (k : ℕ). outs us + k) costs };
-          left = tt;
+          tally_left = tt;
           marks_left = tt;
           pool_kept = tt;
           lent = lent ∙ ap gA.lent pool;

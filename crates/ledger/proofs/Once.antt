@@ -5,7 +5,7 @@ use native.Mathlib.Nat.{ℕ_set}
 use Rattle.rules.specs.declared.state.Holder.{Holder}
 use Rattle.rules.specs.declared.state.Holder.TheVariants.{Nobody, Record, Deferred}
 use Rattle.rules.specs.Figures.{Figures}
-use Rattle.rules.specs.Book.{Book, dataset}
+use Rattle.rules.specs.Book.{Book}
 use Rattle.rules.specs.Holders.{is_held}
 use Rattle.rules.specs.Invariant.{Summed}
 use Rattle.rules.specs.Law.{Exists, Accounted}

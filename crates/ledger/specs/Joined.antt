@@ -1,6 +1,6 @@
 -- What a tally, the marks of a pool and a cost policy mean together, which journals stand behind them, and when they are sound.
 -- A ledger's ghost field says the last, so no ledger is named here.
-use Rattle.std.specs.Prelude.{◌≡◌, ℕ, List}
+use Rattle.std.specs.Prelude.{◌≡◌, List}
 use Rattle.pool.specs.declared.allocator.Allocator.{Ghosts as AllocatorMembers}
 use Rattle.costs.specs.declared.policy.CostPolicy.{Ghosts as PolicyMembers}
 use Rattle.rules.specs.Figures.{Figures, Sane}

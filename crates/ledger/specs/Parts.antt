@@ -14,7 +14,7 @@ use Rattle.rules.specs.Theorems.{Moved, Fits}
 use Rattle.marks.specs.declared.marks.Marks.{Marks}
 use Rattle.marks.specs.Sound.{pool_of as pool_in, holders_of as holders_in, size_of}
 use Rattle.tally.specs.declared.Tally.{Tally}
-use Rattle.tally.specs.Parts.{book_of as book_in, Same, Left}
+use Rattle.tally.specs.Parts.{book_of as book_in, Same}
 use Rattle.ledger.specs.declared.Ledger.{Ledger}
 use Rattle.ledger.specs.Joined.{figures_in, StandsIn, SoundIn}
 
@@ -50,19 +50,12 @@ module _ {A P : Type 0} {gA : AllocatorMembers A} {gP : PolicyMembers P} where
   abbrev pub Sound : Ledger A P gA gP → Type 0
   Sound l = SoundIn gA gP l.tally l.marks l.policy
 
-  -- a refused order leaves the whole ledger, and so does tell
-  abbrev pub Untouched : Ledger A P gA gP → Ledger A P gA gP → Answer → Type 0
-  Untouched l l' (Done v) = Unit {0}
-  Untouched l l' (Refused f) = l' ≡ l
-  Untouched l l' (Told f) = l' ≡ l
-  Untouched l l' (Stopped n p) = l' ≡ l
-
--- the same of the marks
-abbrev pub MarksLeft : {A : Type 0} {gA : AllocatorMembers A} → Marks A gA → Marks A gA → Answer → Type 0
-MarksLeft m m' (Done v) = Unit {0}
-MarksLeft m m' (Refused f) = m' ≡ m
-MarksLeft m m' (Told f) = m' ≡ m
-MarksLeft m m' (Stopped n p) = m' ≡ m
+-- a refused order leaves the whole of what there was, and so does tell
+abbrev pub Untouched : {X : Type 0} → X → X → Answer → Type 0
+Untouched old new (Done v) = Unit {0}
+Untouched old new (Refused f) = new ≡ old
+Untouched old new (Told f) = new ≡ old
+Untouched old new (Stopped n p) = new ≡ old
 
 -- only a write and a turn change the allocator
 abbrev pub PoolKept : {A : Type 0} → Meaning → A → A → Type 0
@@ -94,8 +87,8 @@ pub record DidTo {A P : Type 0} {gA : AllocatorMembers A} {gP : PolicyMembers P}
   pub marked : holders_in marks ≡ holders_after (book_of l) m a (units_of l) (gA.units (pool_in marks)) (holders_of l)
   -- the units changed only as the order may change them
   pub moved : Moved (figures l) m a (holders_of l) (units_of l) (gA.units (pool_in marks))
-  pub left : Left l.tally tally a
-  pub marks_left : MarksLeft l.marks marks a
+  pub tally_left : Untouched l.tally tally a
+  pub marks_left : Untouched l.marks marks a
   pub pool_kept : PoolKept m (pool_of l) (pool_in marks)
   pub lent : gA.lent (pool_in marks) ≡ lent_of l
 

@@ -14,13 +14,7 @@ use tally::Tally;
 fn any_out<A: Allocator>(pool: &A) -> bool
     ensures { result ≡ any_out (A.Allocator.units pool.now) }
 {
-    let size = pool.size();
-    for unit in 0..size {
-        if pool.is_out(unit) {
-            return true;
-        }
-    }
-    false
+    (0..pool.size()).any(|unit| pool.is_out(unit))
 }
 
 /// Whether the allocator and the slop make a ledger.

@@ -48,8 +48,9 @@ fn obey_all<A: Allocator, P: CostPolicy>(
     ensures through { Through ledger.old ledger.new (served (figures ledger.old) (book_of ledger.old) (map meaning orders.now)) }
     ensures answered { answers.new ≡ answers_of (served (figures ledger.old) (book_of ledger.old) (map meaning orders.now)) ++ drop (length orders.now) answers.old }
 {
-    for i in 0..orders.len() {
-        answers[i] = answer(ledger.obey(orders[i]));
+    // zipped with `answers.iter_mut()`, a proof would know nothing of the answers afterwards
+    for (i, order) in orders.iter().enumerate() {
+        answers[i] = answer(ledger.obey(*order));
     }
 }
 

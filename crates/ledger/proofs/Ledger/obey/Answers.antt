@@ -15,7 +15,7 @@ returns g c =
       answered = d.answered;
       booked = d.booked;
       figured = laws.figured l l'.tally l'.marks l'.policy m a d;
-      untouched = laws.untouched_by l l' a d.left d.marks_left d.policy_same;
+      untouched = laws.untouched_by l l' a d.tally_left d.marks_left d.policy_same;
       kept = d.pool_kept;
       lent = d.lent;
     }

@@ -1,13 +1,12 @@
-use Rattle.std.proofs.Common.{◌≡◌, false, get_or, sym, arith, below_more}
-use Rattle.ledger.proofs.Outs.{one_out, none_out}
+use Rattle.std.proofs.Common.{◌≡◌, false, get_or, length, ◌∙◌, rules, tests, arith}
+use Rattle.std.proofs.lemmas.Iterator.{YieldsList-from_range}
+use Rattle.std.proofs.lemmas.Iterator.Search.{any_from_yields_List}
+use Rattle.ledger.proofs.Outs.{asked_each}
 use Rattle.ledger.proofs.making.any_out.Goals as goal
 
-pub loop-unit-preserved : goal.loop-unit-preserved
-loop-unit-preserved g c =
-    below_more (λ k. get_or (g.A.Allocator.units c.args.pool.now) k false ≡ false) c.loop-unit.unit c.loop-unit.invariant (sym c.if-is_out.ensures)
-
-pub returns-then-is_out : goal.returns-then-is_out
-returns-then-is_out g c = sym (one_out (g.A.Allocator.units c.args.pool.now) c.loop-unit.unit (sym c.if-is_out.ensures))
-
 pub returns : goal.returns
-returns g c = sym (none_out (g.A.Allocator.units c.args.pool.now) (λ k h. c.loop-unit.invariant k (omega arith)))
+returns g c =
+    let us = g.A.Allocator.units c.args.pool.now in
+    let long : c.size.result ≡ length us = c.size.ensures in
+    any_from_yields_List (λ u. get_or us u false) _ _ _ c.any.ensures.ran (YieldsList-from_range 0 c.size.result (length us) (search rules) (omega arith)) (λ x b q k. search (rules, tests))
+    ∙ asked_each us
