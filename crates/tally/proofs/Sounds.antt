@@ -1,7 +1,9 @@
 -- What a sound tally's parts say, and that an accepted order leaves it sound.
-use Rattle.std.proofs.Common.{◌≡◌, ℕ, ◌-◌, ◌<◌, List, length, sym, ap, ◌∙◌, subst, arith}
+use Rattle.std.proofs.Common.{◌≡◌, ℕ, ◌-◌, ◌<◌, List, length, Ok, Err, Result, sym, ap, ◌∙◌, subst, arith}
+use Rattle.std.specs.Result.{IsErrAnd}
 use mathlib.Core.HLevel.{is_prop→PathP}
 use mathlib.Core.Logic.{∥∥₁_prop}
+use Rattle.orders.specs.declared.answer.Answer.{Answer}
 use Rattle.orders.specs.declared.answer.Answer.TheVariants.{Done, Refused}
 use Rattle.orders.specs.Meaning.{Meaning}
 use Rattle.charges.specs.declared.Row.{Row}
@@ -102,6 +104,13 @@ refused_did t t' m f refused same = record {
 -- the same of a fault that is known by another name
 pub refused_as : (t t' : Tally) (m : Meaning) (f g : LedgerFault) → f ≡ g → Did t t' m (Refused (refusal_of g)) → Did t t' m (Refused (refusal_of f))
 refused_as t t' m f g e did = subst (λ (h : LedgerFault). Did t t' m (Refused (refusal_of h))) (sym e) did
+
+-- a call that refuses by `?`, with the fault that the conversion gives
+pub refused_from : {X : Type 0} (shown : Result X LedgerFault → Answer) → ((f : LedgerFault) → shown (Err f) ≡ Refused (refusal_of f)) →
+    (t t' : Tally) (m : Meaning) (r : Result X LedgerFault) (g : LedgerFault) → IsErrAnd r (λ f. f ≡ g) → Did t t' m (Refused (refusal_of g)) → Did t t' m (shown r)
+refused_from shown is t t' m (Ok x) g e did = absurd e
+refused_from shown is t t' m (Err f) g e did =
+    subst (λ (a : Answer). Did t t' m a) (ap (λ (h : LedgerFault). Refused (refusal_of h)) (sym e) ∙ sym (is f)) did
 
 -- and of one that accepts
 pub done_did : (t t' : Tally) (m : Meaning) (k : ℕ) → ((cost : ℕ → ℕ) → answer (figures_of cost t) (book_of t) m ≡ Done k) →

@@ -62,6 +62,8 @@ impl Tally {
         Ok(self.worst)
     }
 
+    // The two holds differ in the step alone; one method for any step would have to require that the book stays sound after it, as these two show of theirs.
+
     /// Holds so many more writes; the estimate.
     pub fn hold_writes(&mut self, t: u8, count: u8) -> Result<u16, LedgerFault>
         ensures { Did self.old self.new (to_hold_writes t count) (answer_of result) }

@@ -1,15 +1,14 @@
 use Rattle.std.proofs.Common.{ℕ, Some, set, sym, refl, ap, ◌∙◌}
-use Rattle.std.proofs.lemmas.Result.{err_from_is_err_and}
 use Rattle.tally.specs.Joined.{book_in}
-use Rattle.tally.proofs.Sounds.{unmoved, refused_as, done_did}
+use Rattle.tally.specs.Faults.{answer_of}
+use Rattle.tally.proofs.Sounds.{unmoved, refused_as, done_did, refused_from}
 use Rattle.tally.proofs.Grants.{refused_in, granted_in, assign-refused, assign-done, assign-book, assign-sound}
 use Rattle.tally.proofs.Tally.assign.Goals as goal
 
 pub returns-in_err-in_transaction : goal.returns-in_err-in_transaction
 returns-in_err-in_transaction c =
-    let p = err_from_is_err_and c.from_residual-in_err-in_transaction.result c.from_residual-in_err-in_transaction.ensures.1 in
     let r = refused_in (Some c.args.t) c.raise.result c.in_err-in_transaction.field-0.0 c.in_err-in_transaction.ensures in
-    rw (p.1, p.2)
+    refused_from answer_of (λ f. refl) _ _ _ c.from_residual-in_err-in_transaction.result _ c.from_residual-in_err-in_transaction.ensures.1
     (refused_as _ _ _ _ _ r.is
     (assign-refused c.args.self.now c.args.t c.in_ok-change.change (sym c.in_ok-change.ensures)
     c.volume_of.result c.estimate-units.result c.volume_of.ensures c.estimate-units.ensures

@@ -1,16 +1,16 @@
-use Rattle.std.proofs.Common.{ℕ, Some, sym, ap, ◌∙◌, subst}
-use Rattle.std.proofs.lemmas.Result.{err_from_is_err_and}
+use Rattle.std.proofs.Common.{ℕ, Some, sym, ap, ◌∙◌, subst, refl}
 use Rattle.orders.specs.declared.answer.Answer.TheVariants.{Done}
 use Rattle.orders.specs.Meaning.{begin}
 use Rattle.tally.specs.Parts.{Did}
 use Rattle.tally.specs.Steps.{lifted}
+use Rattle.tally.specs.Faults.{answer_of}
 use Rattle.tally.proofs.Transacts.{begin_no_volume, begin-sound, begin_did}
+use Rattle.tally.proofs.Sounds.{refused_from}
 use Rattle.tally.proofs.Tally.begin.Goals as goal
 
 pub returns-in_err-in_transaction : goal.returns-in_err-in_transaction
 returns-in_err-in_transaction c =
-    let p = err_from_is_err_and c.from_residual-in_err-in_transaction.result c.from_residual-in_err-in_transaction.ensures.1 in
-    rw (p.1, p.2)
+    refused_from answer_of (λ f. refl) _ _ _ c.from_residual-in_err-in_transaction.result _ c.from_residual-in_err-in_transaction.ensures.1
     (begin_no_volume c.args.self.now c.args.t c.args.volume c.in_ok-change.change (sym c.in_ok-change.ensures)
     c.in_err-in_transaction.field-0.0 (ap (lifted (Some c.args.t)) (sym c.volume.ensures) ∙ sym c.in_err-in_transaction.ensures))
 

@@ -1,8 +1,8 @@
 use Rattle.std.proofs.Common.{ℕ, set, sym, refl, ap, ◌∙◌}
-use Rattle.std.proofs.lemmas.Result.{err_from_is_err_and}
 use Rattle.orders.specs.declared.answer.Answer.TheVariants.{Done}
 use Rattle.tally.specs.Joined.{book_in}
-use Rattle.tally.proofs.Sounds.{done_did}
+use Rattle.tally.specs.Parts.{freed_of}
+use Rattle.tally.proofs.Sounds.{done_did, refused_from}
 use Rattle.tally.proofs.Writes.{free_table, free-refused, free-done, free-inside, free-fits, free-book, free-sound}
 use Rattle.tally.proofs.Tally.free.Goals as goal
 
@@ -12,8 +12,7 @@ check_record-requires c =
 
 pub returns-in_err-check_record-clause-did : goal.returns-in_err-check_record-clause-did
 returns-in_err-check_record-clause-did c =
-    let p = err_from_is_err_and c.from_residual-in_err-check_record.result c.from_residual-in_err-check_record.ensures.1 in
-    rw (p.1, p.2)
+    refused_from freed_of (λ f. refl) _ _ _ c.from_residual-in_err-check_record.result _ c.from_residual-in_err-check_record.ensures.1
     (free-refused c.args.self.now c.args.t c.args.number c.in_ok-change.change (sym c.in_ok-change.ensures) c.volume_of-volume.result c.volume_of-volume.ensures c.in_err-check_record.field-0.0 (sym c.in_err-check_record.ensures))
 
 pub empty_record-units-requires : goal.empty_record-units-requires

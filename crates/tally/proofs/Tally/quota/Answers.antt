@@ -1,6 +1,6 @@
 use Rattle.std.proofs.Common.{sym, refl, arith}
-use Rattle.std.proofs.lemmas.Result.{err_from_is_err_and}
-use Rattle.tally.proofs.Sounds.{unmoved, refused_as, done_did}
+use Rattle.tally.specs.Faults.{answer_of}
+use Rattle.tally.proofs.Sounds.{unmoved, done_did, refused_from}
 use Rattle.tally.proofs.Settings.{quota-refused, quota-done, quota-book, quota-still}
 use Rattle.tally.proofs.Tally.quota.Goals as goal
 
@@ -14,11 +14,9 @@ invariant_of-self c = record {
 
 pub returns-in_err-set_quota : goal.returns-in_err-set_quota
 returns-in_err-set_quota c =
-    let p = err_from_is_err_and c.from_residual.result c.from_residual.ensures.1 in
-    rw p.1
-    (refused_as _ _ _ p.0 _ p.2
+    refused_from answer_of (λ f. refl) _ _ _ c.from_residual.result _ c.from_residual.ensures.1
     (quota-refused c.args.self.now c.args.d c.args.units _ c.in_err-set_quota.field-0.0 (sym c.in_err-set_quota.ensures.answer)
-    (unmoved c.args.self.now _ refl refl refl c.in_err-set_quota.ensures.after refl refl)))
+    (unmoved c.args.self.now _ refl refl refl c.in_err-set_quota.ensures.after refl refl))
 
 pub returns : goal.returns
 returns c =

@@ -1,21 +1,19 @@
 use Rattle.std.proofs.Common.{ℕ, set, sym, refl, ap, ◌∙◌}
-use Rattle.std.proofs.lemmas.Result.{err_from_is_err_and}
 use Rattle.tally.specs.Joined.{book_in}
-use Rattle.tally.proofs.Sounds.{refused_as, done_did}
+use Rattle.tally.specs.Parts.{resized_of}
+use Rattle.tally.proofs.Sounds.{done_did, refused_from}
 use Rattle.tally.proofs.Cuts.{resize_no_volume, resize-wrong-count, resize-shaped, resize-fits, resize-old, resize-done, resize-book, resize-sound}
 use Rattle.tally.proofs.Tally.resize.Goals as goal
 
 pub returns-in_err-volume-clause-did : goal.returns-in_err-volume-clause-did
 returns-in_err-volume-clause-did c =
-    let p = err_from_is_err_and c.from_residual.result c.from_residual.ensures.1 in
-    rw p.1
-    (refused_as _ _ _ p.0 _ p.2 (resize_no_volume c.args.self.now c.args.volume c.args.records c.in_err-volume.field-0.0 (sym c.in_err-volume.ensures)))
+    refused_from resized_of (λ f. refl) _ _ _ c.from_residual.result _ c.from_residual.ensures.1
+    (resize_no_volume c.args.self.now c.args.volume c.args.records c.in_err-volume.field-0.0 (sym c.in_err-volume.ensures))
 
 pub returns-in_err-check_records-clause-did : goal.returns-in_err-check_records-clause-did
 returns-in_err-check_records-clause-did c =
-    let p = err_from_is_err_and c.from_residual-in_err-check_records.result c.from_residual-in_err-check_records.ensures.1 in
-    rw p.1
-    (refused_as _ _ _ p.0 _ p.2 (resize-wrong-count c.args.self.now c.args.volume c.args.records (sym c.in_ok-volume.ensures) c.in_err-check_records.field-0.0 (sym c.in_err-check_records.ensures)))
+    refused_from resized_of (λ f. refl) _ _ _ c.from_residual-in_err-check_records.result _ c.from_residual-in_err-check_records.ensures.1
+    (resize-wrong-count c.args.self.now c.args.volume c.args.records (sym c.in_ok-volume.ensures) c.in_err-check_records.field-0.0 (sym c.in_err-check_records.ensures))
 
 pub cut-units-requires-clause-shaped : goal.cut-units-requires-clause-shaped
 cut-units-requires-clause-shaped c = rw c.from.ensures (resize-shaped c.args.self.now c.args.volume c.args.records (sym c.in_ok-volume.ensures) (sym c.in_ok-check_records.ensures))

@@ -1,18 +1,16 @@
 use Rattle.std.proofs.Common.{ℕ, set, sym, refl, ap, ◌∙◌, arith}
-use Rattle.std.proofs.lemmas.Result.{err_from_is_err_and}
 use Rattle.orders.specs.declared.answer.Answer.TheVariants.{Done}
 use Rattle.tally.specs.Joined.{book_in}
-use Rattle.tally.proofs.Sounds.{unmoved, refused_as, done_did}
+use Rattle.tally.specs.Faults.{answer_of}
+use Rattle.tally.proofs.Sounds.{unmoved, done_did, refused_from}
 use Rattle.tally.proofs.Grows.{volume-refused, volume-done, volume-book, volume-sound}
 use Rattle.tally.proofs.Tally.volume.Goals as goal
 
 pub returns-in_err-d : goal.returns-in_err-d
 returns-in_err-d c =
-    let p = err_from_is_err_and c.from_residual.result c.from_residual.ensures.1 in
-    rw p.1
-    (refused_as _ _ _ p.0 _ p.2
+    refused_from answer_of (λ f. refl) _ _ _ c.from_residual.result _ c.from_residual.ensures.1
     (volume-refused c.args.self.now c.args.parent c.args.records c.args.name _ c.in_err-d.field-0.0 (sym c.in_err-d.ensures.answer)
-    (unmoved c.args.self.now _ refl refl refl c.in_err-d.ensures.after refl refl)))
+    (unmoved c.args.self.now _ refl refl refl c.in_err-d.ensures.after refl refl))
 
 pub invariant_of-self-2 : goal.invariant_of-self-2
 invariant_of-self-2 c = record {
