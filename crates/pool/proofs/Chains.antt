@@ -1,8 +1,8 @@
 -- A chain through the units that are in: its head is taken off, or another unit is put before it.
-use Rattle.std.proofs.Common.{◌≡◌, ℕ, zero, suc, ◌+◌, ◌-◌, ◌<◌, ◌≤◌, Bool, true, false, eqb, List, [], ◌∷◌, length, get_or, drop, set, replicate, Ok, sym, refl, ap, ◌∙◌, subst, inl, inr, arith}
-use Rattle.std.proofs.lemmas.List.{length-set, length-append, length-drop, get_or-set_same, get_or-set_other, get_or_append_left, get_or-append_right, get_or-drop, drop-set-lt, get_or_past, ext_get_or, length-replicate, get_or-replicate}
+use Rattle.std.proofs.Common.{◌≡◌, ℕ, zero, suc, ◌+◌, ◌<◌, ◌≤◌, Bool, true, false, eqb, List, [], ◌∷◌, ◌++◌, length, get_or, drop, set, replicate, Ok, sym, refl, ap, ◌∙◌, subst, inl, inr, arith}
+use Rattle.std.proofs.lemmas.List.{length-set, length-append, length-drop, get_or-set_same, get_or-set_other, get_or_append_left, drop-set-lt, get_or_past, ext_get_or, length-replicate, get_or-replicate}
 use Rattle.std.proofs.lemmas.List.FromFn.{length-range_with_len, get_or-range_with_len, length-map-range_with_len, get_or-map-range_with_len}
-use Rattle.std.proofs.lemmas.Bool.{cases_eq, cases_lt, eq-eqb, ne_eqb, eqb-true}
+use Rattle.std.proofs.lemmas.Bool.{cases_eq, eq-eqb, ne_eqb, eqb-true}
 use Rattle.std.specs.List.{range_with_len}
 use Rattle.pool.specs.Links.{out_at, taken, chained, beside_links, Apart, Among, Threads, Space, Linked}
 use Rattle.pool.specs.Units.{Took, Gave}
@@ -164,15 +164,10 @@ new-taken ls n s =
     (λ k b. let c : k < n = omega arith in taken_at (chained ls n) n k c ∙ ne_eqb (get_or (chained ls n) k 0) 65535 (λ q. let z = chained-at ls n k c in omega (arith, s.1)) ∙ sym (get_or-replicate n k false false c))
 
 -- what the loop has written: the front is linked, and the rest as it was
-pub linking : (ls ms : List ℕ) (n : ℕ) → n ≤ length ls → length ms ≡ length ls → ((k : ℕ) → k < n → get_or ms k 0 ≡ k + 1) → ((k : ℕ) → n ≤ k → get_or ms k 0 ≡ get_or ls k 0) → ms ≡ chained ls n
-linking ls ms n s l front rest =
-    ext_get_or 0 ms (chained ls n) (l ∙ sym (length-chained ls n s))
-    (λ k h. elim (cases_lt k n) [
-      | inl b ↦ front k b ∙ sym (chained-at ls n k b)
-      | inr b ↦
-          let e : n + (k - n) ≡ k = omega arith in
-          rest k b ∙ sym (get_or-append_right (range_with_len 1 n) (drop n ls) n k 0 (length-range_with_len 1 n) b ∙ get_or-drop n ls (k - n) 0 ∙ ap (λ (j : ℕ). get_or ls j 0) e)
-    ])
+pub linking : (ls xs : List ℕ) (n : ℕ) → length xs ≡ n → ((k : ℕ) → k < n → get_or xs k 0 ≡ k + 1) → xs ++ drop n ls ≡ chained ls n
+linking ls xs n l all =
+    ap (λ (z : List ℕ). z ++ drop n ls) (ext_get_or 0 xs (range_with_len 1 n) (l ∙ sym (length-range_with_len 1 n))
+    (λ k b. let e = get_or-range_with_len 1 n k 0 (omega arith) in omega (arith, all k (omega arith), e)))
 
 -- the entry of a unit is none of what the memory holds beside the units
 pub beside-set : (m : ℕ) (ls : List ℕ) (n u v : ℕ) → u < n → beside_links m (set ls u v) n ≡ beside_links m ls n

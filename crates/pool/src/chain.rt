@@ -14,8 +14,8 @@ fn link(links: &mut [u16], size: u16)
     requires { size ≤ length links.old }
     ensures { links.new ≡ chained links.old size }
 {
-    for i in 0..size {
-        links[i as usize] = i + 1;
+    for (i, entry) in links[..usize::from(size)].iter_mut().enumerate() {
+        *entry = i as u16 + 1;
     }
 }
 

@@ -86,6 +86,7 @@ fn measure<A: Allocator>(pool: &mut A, case: Case) -> Result<u64, AllocatorFault
     work(pool, case.rounds)
 }
 
+// The three differ in the memory that they lend; a trait for it would be longer than they are.
 fn run_bitmap(case: Case) -> Result<u64, AllocatorFault> {
     let mut memory = [0u8; 512];
     Bitmap::check(case.units, &memory)?;

@@ -51,6 +51,7 @@ mod tests {
         fill(rt, pool)
     }
 
+    // The three differ in the memory that they lend; a trait for it would be longer than they are.
     fn bitmap_round(rt: &impl Abort, size: usize) -> Result<(), Fail> {
         let mut memory = [0xaau8; 512];
         Bitmap::check(size, &memory)?;

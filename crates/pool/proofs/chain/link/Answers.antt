@@ -1,14 +1,14 @@
-use Rattle.std.proofs.Common.{◌<◌, ◌≢◌, length, arith, get_or-set_other, get_or-set_same, below_more}
+use Rattle.std.proofs.Common.{◌≡◌, ◌+◌, length, take, arith}
+use Rattle.std.proofs.lemmas.List.{length-take-le}
+use Rattle.std.proofs.lemmas.List.Edits.{fill_by_more}
 use Rattle.pool.proofs.Chains.{linking}
 use Rattle.pool.proofs.chain.link.Goals as goal
 
 pub loop-i-preserved : goal.loop-i-preserved
-loop-i-preserved c = (
-  below_more _ _
-      (λ k h. let ne : k ≢ c.loop-i.i = omega arith in rw get_or-set_other (c.loop-i.invariant.0 k h))
-      (let lt : c.loop-i.i < length c.loop-i.links = omega arith in rw get_or-set_same),
-  (λ k h. let ne : k ≢ c.loop-i.i = omega arith in rw get_or-set_other (c.loop-i.invariant.1 k (omega arith))),
-)
+loop-i-preserved c = fill_by_more (λ k. k + 1) c.loop-i.entry-items c.loop-i.i 0 (omega arith) c.loop-i.invariant
 
 pub returns : goal.returns
-returns c = linking c.args.links.now _ _ c.requires c.loop-i.auto.links (λ k h. c.loop-i.invariant.0 k (omega arith)) (λ k h. c.loop-i.invariant.1 k (omega arith))
+returns c =
+    let l : length (take c.from.result c.args.links.now) ≡ c.from.result = length-take-le c.from.result c.args.links.now (omega arith) in
+    let n : length c.loop-i.entry-items ≡ c.args.size = omega arith in
+    rw c.from.ensures (linking c.args.links.now c.loop-i.entry-items c.args.size n (λ k h. c.loop-i.invariant k (omega arith)))

@@ -1,6 +1,5 @@
-use Rattle.std.proofs.Common.{◌≡◌, ℕ, ◌+◌, ◌<◌, ◌≤◌, get_or}
+use Rattle.std.proofs.Common.{◌≡◌, ℕ, ◌+◌, ◌<◌, get_or}
 use Rattle.pool.proofs.chain.link.Given as goal
 
 abbrev pub invariant-loop-i : goal.invariant-loop-i
-invariant-loop-i l =
-    ((k : ℕ) → k < l.i → get_or l.links k 0 ≡ k + 1) × ((k : ℕ) → l.i ≤ k → get_or l.links k 0 ≡ get_or l.initial.links k 0)
+invariant-loop-i l = (k : ℕ) → k < l.i → get_or l.entry-items k 0 ≡ k + 1
