@@ -1,9 +1,9 @@
 -- The bits of lent bytes: one is turned over, or the first of them are cleared.
-use Rattle.std.proofs.Common.{◌≡◌, ℕ, zero, suc, ◌+◌, ◌-◌, ◌*◌, ◌/◌, ◌%◌, ◌^◌, ◌<◌, ◌≤◌, min, Bool, true, false, not, eqb, List, [], ◌∷◌, length, get_or, take, drop, set, replicate, Ok, sym, refl, ap, ◌∙◌, subst, inl, inr, mul_assoc, arith}
+use Rattle.std.proofs.Common.{◌≡◌, ℕ, zero, suc, ◌+◌, ◌-◌, ◌*◌, ◌/◌, ◌%◌, ◌^◌, ◌<◌, ◌≤◌, min, Bool, true, false, not, eqb, List, [], ◌∷◌, ◌++◌, length, get_or, take, drop, set, replicate, Ok, sym, refl, ap, ◌∙◌, subst, inl, inr, mul_assoc, arith}
 use native.Mathlib.Nat.{div-eq_of_lt}
 use lib.Bits.{bit_xor, xor_zero_r}
 use Rattle.std.proofs.lemmas.Nat.{xor_shr, xor_mod, shl-shr, shr-shr, pow-add, pow_below}
-use Rattle.std.proofs.lemmas.List.{get_or-set_same, get_or-set_other, get_or_past, length-set, ext_get_or, length-replicate, get_or-replicate, get_or-take, get_or-drop, length-take-le, length-drop}
+use Rattle.std.proofs.lemmas.List.{get_or-set_same, get_or-set_other, get_or_past, length-set, ext_get_or, length-replicate, get_or-replicate, get_or-take, get_or-drop, length-take-le, length-drop, length-append, get_or_append_left, get_or-append_right}
 use Rattle.std.proofs.lemmas.List.FromFn.{length-map-range_with_len, get_or-map-range_with_len, fill_by_all}
 use Rattle.std.proofs.lemmas.Bool.{cases_eq, cases_lt, ne_eqb}
 use Rattle.std.proofs.lemmas.Nat.Bits.{bit_at-trailing_ones}
@@ -269,7 +269,7 @@ cleared_mapped bs n r =
     record { room = (r.0, r.1, omega (arith, r.2)); within = omega arith; below = λ k h. absurd (omega arith) }
 
 -- what the loop has written: the front is cleared, and the rest as it was
-pub clearing : (bs cs : List ℕ) (n m : ℕ) → length cs ≡ length bs → n ≤ 8 * m → ((k : ℕ) → k < m → get_or cs k 0 ≡ low_cleared (get_or bs k 0) (n - 8 * k)) → ((k : ℕ) → m ≤ k → get_or cs k 0 ≡ get_or bs k 0) → cs ≡ cleared bs n
+clearing : (bs cs : List ℕ) (n m : ℕ) → length cs ≡ length bs → n ≤ 8 * m → ((k : ℕ) → k < m → get_or cs k 0 ≡ low_cleared (get_or bs k 0) (n - 8 * k)) → ((k : ℕ) → m ≤ k → get_or cs k 0 ≡ get_or bs k 0) → cs ≡ cleared bs n
 clearing bs cs n m l room front rest =
     fill_by_all (λ i. low_cleared (get_or bs i 0) (n - 8 * i)) cs (length bs) 0 l
     (λ k h. elim (cases_lt k m) [
@@ -279,6 +279,13 @@ clearing bs cs n m l room front rest =
           let o : low_cleared (get_or bs k 0) 0 ≡ get_or bs k 0 = omega arith in
           rest k b ∙ sym (ap (λ (y : ℕ). low_cleared (get_or bs k 0) y) z ∙ o)
     ])
+
+pub cleared_front : (bs xs : List ℕ) (n m : ℕ) → m ≤ length bs → length xs ≡ m → n ≤ 8 * m → ((k : ℕ) → k < m → get_or xs k 0 ≡ low_cleared (get_or (take m bs) k 0) (n - 8 * k)) → xs ++ drop m bs ≡ cleared bs n
+cleared_front bs xs n m s l r front =
+    let t : length (xs ++ drop m bs) ≡ length bs = omega (arith, length-append xs (drop m bs), length-drop m bs) in
+    clearing bs (xs ++ drop m bs) n m t r
+    (λ k h. get_or_append_left xs (drop m bs) 0 k (omega arith) ∙ front k h ∙ ap (λ (x : ℕ). low_cleared x (n - 8 * k)) (get_or-take m bs k 0 h))
+    (λ k h. let e : m + (k - m) ≡ k = omega arith in get_or-append_right xs (drop m bs) m k 0 l h ∙ get_or-drop m bs (k - m) 0 ∙ ap (λ (j : ℕ). get_or bs j 0) e)
 
 -- a bit of a unit is none of what the memory holds beside the units
 low-turned : (x n j : ℕ) → j < min n 8 → low_cleared (bit_xor x (2 ^ j)) n ≡ low_cleared x n

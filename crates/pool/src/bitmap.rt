@@ -50,9 +50,8 @@ fn clear(memory: &mut [u8], size: usize)
     requires { size ≤ 8 * length memory.old }
     ensures { memory.new ≡ cleared memory.old size }
 {
-    // By index: a `fill` of the whole bytes was tried, and the proof did not close: after it nothing says that what stood there were bytes.
-    for i in 0..size.div_ceil(8) {
-        memory[i] = low_cleared(memory[i], size - 8 * i);
+    for (i, byte) in memory[..size.div_ceil(8)].iter_mut().enumerate() {
+        *byte = low_cleared(*byte, size - 8 * i);
     }
 }
 
