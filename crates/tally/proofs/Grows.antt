@@ -1,5 +1,5 @@
 -- New datasets.
-use Rattle.std.proofs.Common.{◌≡◌, ℕ, ◌<◌, Bool, true, false, cond, ◌&&◌, ltb, List, [], ◌∷◌, ◌++◌, length, set, None, Ok, Err, Result, sym, refl, ap, ◌∙◌, subst, arith}
+use Rattle.std.proofs.Common.{◌≡◌, ℕ, ◌<◌, Bool, true, false, cond, ◌&&◌, ltb, List, [], ◌∷◌, ◌++◌, length, set, None, Ok, Err, Result, sym, refl, ap, ◌∙◌, arith}
 use Rattle.std.proofs.lemmas.List.{length-set}
 use Rattle.orders.specs.declared.answer.Answer.{Answer}
 use Rattle.orders.specs.declared.answer.Answer.TheVariants.{Done, Refused}
@@ -31,7 +31,7 @@ use Rattle.tally.specs.Steps.{lifted}
 use Rattle.tally.proofs.Asks.{and_then}
 use Rattle.tally.proofs.Checks.{kind-asked}
 use Rattle.tally.proofs.Joins.{datasets_push}
-use Rattle.tally.proofs.Sounds.{sound, made-is, rows_are, shaped, still-sound, refused_did}
+use Rattle.tally.proofs.Sounds.{sound, made-is, rows_are, shaped, still-sound, tree_done, tree_refused}
 
 -- the checks of a new dataset: its parent a folder, room for it, and what follows
 make_by : (q : Bool) (k : Kind) (r : Bool) (p : ℕ) (others : Answer) (then : Result ℕ TreeFault) → others ≡ and_then (lifted None then) Done →
@@ -63,23 +63,30 @@ module _ (t : Tally) (p : ℕ) where
   -- a dataset with nothing in it, put at the end
   module _ (kind : Kind) (c : Contents) (tree' : Tree) (be : Becomes t.tree tree' (rows_of t.tree ++ child p ∷ []) (kinds_of t.tree ++ kind ∷ []))
       (few : length (rows_of t.tree) < 64) where
-    grown-book : book_in tree' (set t.contents (length (rows_of t.tree)) c) t.transactions ≡ with_new (book_of t) (new p kind c)
-    grown-book =
+    added-book : book_in tree' (set t.contents (length (rows_of t.tree)) c) t.transactions ≡ with_new (book_of t) (new p kind c)
+    added-book =
         ap (λ (ds : List Dataset). record { datasets = ds; transactions = t.transactions })
         (ap (λ (rs : List Row). datasets_in rs (kinds_of tree') (set t.contents (length (rows_of t.tree)) c)) be.rows_are
         ∙ ap (λ (ks : List Kind). datasets_in (rows_of t.tree ++ child p ∷ []) ks (set t.contents (length (rows_of t.tree)) c)) be.kinds_are
         ∙ datasets_push (rows_of t.tree) (kinds_of t.tree) t.contents p kind c (kind-count t.tree) (omega (arith, (sound t).contents_long)))
 
-    grown-rows : held_by c ≡ 0 → (cost : ℕ → ℕ) → rows_of tree' ≡ rows (figures_of cost t) (with_new (book_of t) (new p kind c))
-    grown-rows nothing cost =
-        be.rows_are ∙ ap (λ (rs : List Row). rs ++ child p ∷ []) (rows_are t cost)
-        ∙ sym (rows_new (figures_of cost t) (book_of t) (new p kind c) (shaped t cost) nothing)
+    -- where its number and what it holds are known by other names
+    module _ (d : ℕ) (last : d ≡ length (rows_of t.tree)) (x : Contents) (is : x ≡ c) where
+      grown-book : book_in tree' (set t.contents d x) t.transactions ≡ with_new (book_of t) (new p kind c)
+      grown-book =
+          ap (λ (y : Contents). book_in tree' (set t.contents d y) t.transactions) is
+          ∙ ap (λ (n : ℕ). book_in tree' (set t.contents n c) t.transactions) last ∙ added-book
 
-    grown-sound : held_by c ≡ 0 → ((cost : ℕ → ℕ) → Shaped (figures_of cost t) (with_new (book_of t) (new p kind c))) →
-        ∥ Sound t.size t.slop t.worst tree' (set t.contents (length (rows_of t.tree)) c) t.transactions ∥₁
-    grown-sound nothing good =
-        still-sound t tree' (set t.contents (length (rows_of t.tree)) c) t.transactions (λ cost. with_new (book_of t) (new p kind c))
-        be.same_room (length-set t.contents (length (rows_of t.tree)) c ∙ (sound t).contents_long) (λ cost. grown-book) (grown-rows nothing) good
+      grown-rows : held_by c ≡ 0 → (cost : ℕ → ℕ) → rows_of tree' ≡ rows (figures_of cost t) (with_new (book_of t) (new p kind c))
+      grown-rows nothing cost =
+          be.rows_are ∙ ap (λ (rs : List Row). rs ++ child p ∷ []) (rows_are t cost)
+          ∙ sym (rows_new (figures_of cost t) (book_of t) (new p kind c) (shaped t cost) nothing)
+
+      grown-sound : held_by c ≡ 0 → ((cost : ℕ → ℕ) → Shaped (figures_of cost t) (with_new (book_of t) (new p kind c))) →
+          ∥ Sound t.size t.slop t.worst tree' (set t.contents d x) t.transactions ∥₁
+      grown-sound nothing good =
+          still-sound t tree' (set t.contents d x) t.transactions (λ cost. with_new (book_of t) (new p kind c))
+          be.same_room (length-set t.contents d x ∙ (sound t).contents_long) (λ cost. grown-book) (grown-rows nothing) good
 
 module _ (t : Tally) (p : ℕ) (name : List ℕ) where
   folder-checked : (cost : ℕ → ℕ) →
@@ -89,13 +96,11 @@ module _ (t : Tally) (p : ℕ) (name : List ℕ) where
 
   pub folder-refused : (t' : Tally) (f : TreeFault) → folder_answer (rows_of t.tree) (kinds_of t.tree) p ≡ Err f → t' ≡ t →
       Did t t' (folder p name) (Refused (refusal_of (InTree f None)))
-  folder-refused t' f e same =
-      refused_did t t' (folder p name) (InTree f None)
-      (λ cost. folder-checked cost ∙ ap (λ (r : Result ℕ TreeFault). and_then (lifted None r) Done) e) same
+  folder-refused = tree_refused t (folder p name) (folder_answer (rows_of t.tree) (kinds_of t.tree) p) folder-checked
 
   module _ (d : ℕ) (e : folder_answer (rows_of t.tree) (kinds_of t.tree) p ≡ Ok d) where
     pub folder-done : (cost : ℕ → ℕ) → answer (figures_of cost t) (book_of t) (folder p name) ≡ Done d
-    folder-done cost = folder-checked cost ∙ ap (λ (r : Result ℕ TreeFault). and_then (lifted None r) Done) e
+    folder-done = tree_done t (folder p name) (folder_answer (rows_of t.tree) (kinds_of t.tree) p) folder-checked d e
 
     folder_number : d ≡ length (rows_of t.tree)
     folder_number = (folder_ok (figures_of (λ s. 0) t) (book_of t) d p name (folder-done (λ s. 0))).3 ∙ made-is t.tree t.contents t.transactions
@@ -107,17 +112,12 @@ module _ (t : Tally) (p : ℕ) (name : List ℕ) where
     module _ (tree' : Tree) (be : Becomes t.tree tree' (rows_of t.tree ++ child p ∷ []) (kinds_of t.tree ++ Folder ∷ []))
         (x : Contents) (is : x ≡ empty name 0) where
       pub folder-book : (cost : ℕ → ℕ) → book_in tree' (set t.contents d x) t.transactions ≡ next (figures_of cost t) (book_of t) (folder p name)
-      folder-book cost =
-          ap (λ (y : Contents). book_in tree' (set t.contents d y) t.transactions) is
-          ∙ ap (λ (n : ℕ). book_in tree' (set t.contents n (empty name 0)) t.transactions) folder_number
-          ∙ grown-book t p Folder (empty name 0) tree' be folder-fits
+      folder-book cost = grown-book t p Folder (empty name 0) tree' be folder-fits d folder_number x is
 
       pub folder-sound : length name ≡ 8 → ∥ Sound t.size t.slop t.worst tree' (set t.contents d x) t.transactions ∥₁
       folder-sound long =
-          subst (λ (y : Contents). ∥ Sound t.size t.slop t.worst tree' (set t.contents d y) t.transactions ∥₁) (sym is)
-          (subst (λ (n : ℕ). ∥ Sound t.size t.slop t.worst tree' (set t.contents n (empty name 0)) t.transactions ∥₁) (sym folder_number)
-          (grown-sound t p Folder (empty name 0) tree' be folder-fits (held-empty name 0)
-          (λ cost. shaped-folder (figures_of cost t) (book_of t) (shaped t cost) p name d long (folder-done cost))))
+          grown-sound t p Folder (empty name 0) tree' be folder-fits d folder_number x is (held-empty name 0)
+          (λ cost. shaped-folder (figures_of cost t) (book_of t) (shaped t cost) p name d long (folder-done cost))
 
 records_by : (r : Bool) (n k : ℕ) → cond r (Done k) (refused_by_tree 14 n 0) ≡ and_then (lifted None (cond r (Ok k) (Err (RecordCount n)))) Done
 records_by true n k = refl
@@ -134,13 +134,11 @@ module _ (t : Tally) (p records : ℕ) (name : List ℕ) where
 
   pub volume-refused : (t' : Tally) (f : TreeFault) → volume_answer (rows_of t.tree) (kinds_of t.tree) p records ≡ Err f → t' ≡ t →
       Did t t' (volume p records name) (Refused (refusal_of (InTree f None)))
-  volume-refused t' f e same =
-      refused_did t t' (volume p records name) (InTree f None)
-      (λ cost. volume-checked cost ∙ ap (λ (r : Result ℕ TreeFault). and_then (lifted None r) Done) e) same
+  volume-refused = tree_refused t (volume p records name) (volume_answer (rows_of t.tree) (kinds_of t.tree) p records) volume-checked
 
   module _ (d : ℕ) (e : volume_answer (rows_of t.tree) (kinds_of t.tree) p records ≡ Ok d) where
     pub volume-done : (cost : ℕ → ℕ) → answer (figures_of cost t) (book_of t) (volume p records name) ≡ Done d
-    volume-done cost = volume-checked cost ∙ ap (λ (r : Result ℕ TreeFault). and_then (lifted None r) Done) e
+    volume-done = tree_done t (volume p records name) (volume_answer (rows_of t.tree) (kinds_of t.tree) p records) volume-checked d e
 
     volume_number : d ≡ length (rows_of t.tree)
     volume_number = (volume_ok (figures_of (λ s. 0) t) (book_of t) d p records name (volume-done (λ s. 0))).5 ∙ made-is t.tree t.contents t.transactions
@@ -152,14 +150,9 @@ module _ (t : Tally) (p records : ℕ) (name : List ℕ) where
     module _ (tree' : Tree) (be : Becomes t.tree tree' (rows_of t.tree ++ child p ∷ []) (kinds_of t.tree ++ Volume ∷ []))
         (x : Contents) (is : x ≡ empty name records) where
       pub volume-book : (cost : ℕ → ℕ) → book_in tree' (set t.contents d x) t.transactions ≡ next (figures_of cost t) (book_of t) (volume p records name)
-      volume-book cost =
-          ap (λ (y : Contents). book_in tree' (set t.contents d y) t.transactions) is
-          ∙ ap (λ (n : ℕ). book_in tree' (set t.contents n (empty name records)) t.transactions) volume_number
-          ∙ grown-book t p Volume (empty name records) tree' be volume-fits
+      volume-book cost = grown-book t p Volume (empty name records) tree' be volume-fits d volume_number x is
 
       pub volume-sound : length name ≡ 8 → ∥ Sound t.size t.slop t.worst tree' (set t.contents d x) t.transactions ∥₁
       volume-sound long =
-          subst (λ (y : Contents). ∥ Sound t.size t.slop t.worst tree' (set t.contents d y) t.transactions ∥₁) (sym is)
-          (subst (λ (n : ℕ). ∥ Sound t.size t.slop t.worst tree' (set t.contents n (empty name records)) t.transactions ∥₁) (sym volume_number)
-          (grown-sound t p Volume (empty name records) tree' be volume-fits (held-empty name records)
-          (λ cost. shaped-volume (figures_of cost t) (book_of t) (shaped t cost) p records name d long (volume-done cost))))
+          grown-sound t p Volume (empty name records) tree' be volume-fits d volume_number x is (held-empty name records)
+          (λ cost. shaped-volume (figures_of cost t) (book_of t) (shaped t cost) p records name d long (volume-done cost))

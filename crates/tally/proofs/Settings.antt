@@ -30,7 +30,7 @@ use Rattle.tally.specs.Sound.{Sound}
 use Rattle.tally.specs.Steps.{lifted}
 use Rattle.tally.proofs.Asks.{and_then}
 use Rattle.tally.proofs.Joins.{datasets-quota, datasets-reservation}
-use Rattle.tally.proofs.Sounds.{sound, made-is, dataset-is, rows_are, shaped, still-sound, refused_did}
+use Rattle.tally.proofs.Sounds.{sound, made-is, dataset-is, rows_are, shaped, still-sound, tree_done, tree_refused}
 
 below_root : (d : ℕ) → ltb 0 d ≡ not (eqb d 0)
 below_root d = elim (cases_eq d 0) [
@@ -71,12 +71,11 @@ module _ (t : Tally) (d u : ℕ) where
       (quota_by (eqb u 0) (ltb u (weight_in rs d)) d (weight_in rs d - u) (charge_in rs d))
 
   pub quota-refused : (t' : Tally) (f : TreeFault) → quota_answer (rows_of t.tree) d u ≡ Err f → t' ≡ t → Did t t' (quota d u) (Refused (refusal_of (InTree f None)))
-  quota-refused t' f e same =
-      refused_did t t' (quota d u) (InTree f None) (λ cost. quota-checked cost ∙ ap (λ (r : Result ℕ TreeFault). and_then (lifted None r) Done) e) same
+  quota-refused = tree_refused t (quota d u) (quota_answer (rows_of t.tree) d u) quota-checked
 
   module _ (k : ℕ) (e : quota_answer (rows_of t.tree) d u ≡ Ok k) where
     pub quota-done : (cost : ℕ → ℕ) → answer (figures_of cost t) (book_of t) (quota d u) ≡ Done k
-    quota-done cost = quota-checked cost ∙ ap (λ (r : Result ℕ TreeFault). and_then (lifted None r) Done) e
+    quota-done = tree_done t (quota d u) (quota_answer (rows_of t.tree) d u) quota-checked k e
 
     quota-made : d < made (book_of t)
     quota-made = (quota_ok (figures_of (λ s. 0) t) (book_of t) k d u (quota-done (λ s. 0))).1
@@ -141,12 +140,11 @@ module _ (t : Tally) (d u : ℕ) where
 
   pub reserve-refused : (t' : Tally) (f : TreeFault) → reservation_answer (room_of t.tree) (rows_of t.tree) d u ≡ Err f → t' ≡ t →
       Did t t' (reserve d u) (Refused (refusal_of (InTree f None)))
-  reserve-refused t' f e same =
-      refused_did t t' (reserve d u) (InTree f None) (λ cost. reserve-checked cost ∙ ap (λ (r : Result ℕ TreeFault). and_then (lifted None r) Done) e) same
+  reserve-refused = tree_refused t (reserve d u) (reservation_answer (room_of t.tree) (rows_of t.tree) d u) reserve-checked
 
   module _ (k : ℕ) (e : reservation_answer (room_of t.tree) (rows_of t.tree) d u ≡ Ok k) where
     pub reserve-done : (cost : ℕ → ℕ) → answer (figures_of cost t) (book_of t) (reserve d u) ≡ Done k
-    reserve-done cost = reserve-checked cost ∙ ap (λ (r : Result ℕ TreeFault). and_then (lifted None r) Done) e
+    reserve-done = tree_done t (reserve d u) (reservation_answer (room_of t.tree) (rows_of t.tree) d u) reserve-checked k e
 
     reserve-made : d < made (book_of t)
     reserve-made = (reserve_ok (figures_of (λ s. 0) t) (book_of t) k d u (reserve-done (λ s. 0))).1

@@ -1,5 +1,5 @@
 -- What a sound tally's parts say, and that an accepted order leaves it sound.
-use Rattle.std.proofs.Common.{◌≡◌, ℕ, ◌-◌, ◌<◌, List, length, Ok, Err, Result, sym, ap, ◌∙◌, subst, arith}
+use Rattle.std.proofs.Common.{◌≡◌, ℕ, ◌-◌, ◌<◌, List, length, None, Ok, Err, Result, sym, ap, ◌∙◌, subst, arith}
 use Rattle.std.specs.Result.{IsErrAnd}
 use mathlib.Core.HLevel.{is_prop→PathP}
 use mathlib.Core.Logic.{∥∥₁_prop}
@@ -19,11 +19,15 @@ use Rattle.rules.proofs.Rows.{rows_is, row-own}
 use Rattle.tree.specs.declared.Tree.{Tree}
 use Rattle.tree.specs.Parts.{rows_of, kinds_of, room_of}
 use Rattle.tally.specs.declared.Tally.{Tally}
+use Rattle.tree.specs.declared.fault.TreeFault.{TreeFault}
 use Rattle.tally.specs.declared.fault.LedgerFault.{LedgerFault}
+use Rattle.tally.specs.declared.fault.LedgerFault.TheVariants.{InTree}
 use Rattle.tally.specs.Faults.{refusal_of}
 use Rattle.tally.specs.Joined.{book_in, figures_in, dataset_at}
 use Rattle.tally.specs.Sound.{Sized, Sound}
 use Rattle.tally.specs.Parts.{book_of, figures_of, Same, Did}
+use Rattle.tally.specs.Steps.{lifted}
+use Rattle.tally.proofs.Asks.{and_then}
 use Rattle.tally.proofs.Once.{sized_once, taken_out}
 use Rattle.tally.proofs.Joins.{datasets-length, datasets-at}
 
@@ -100,6 +104,16 @@ refused_did t t' m f refused same = record {
   same = record { size = ap (λ (x : Tally). x.size) same; slop = ap (λ (x : Tally). x.slop) same; worst = ap (λ (x : Tally). x.worst) same };
   left = same;
 }
+
+-- an order that is answered as the tree answers it
+module _ (t : Tally) (m : Meaning) (r : Result ℕ TreeFault)
+    (answered : (cost : ℕ → ℕ) → answer (figures_of cost t) (book_of t) m ≡ and_then (lifted None r) Done) where
+  pub tree_done : (k : ℕ) → r ≡ Ok k → (cost : ℕ → ℕ) → answer (figures_of cost t) (book_of t) m ≡ Done k
+  tree_done k e cost = answered cost ∙ ap (λ (s : Result ℕ TreeFault). and_then (lifted None s) Done) e
+
+  pub tree_refused : (t' : Tally) (f : TreeFault) → r ≡ Err f → t' ≡ t → Did t t' m (Refused (refusal_of (InTree f None)))
+  tree_refused t' f e same =
+      refused_did t t' m (InTree f None) (λ cost. answered cost ∙ ap (λ (s : Result ℕ TreeFault). and_then (lifted None s) Done) e) same
 
 -- the same of a fault that is known by another name
 pub refused_as : (t t' : Tally) (m : Meaning) (f g : LedgerFault) → f ≡ g → Did t t' m (Refused (refusal_of g)) → Did t t' m (Refused (refusal_of f))
