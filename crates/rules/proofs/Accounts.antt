@@ -20,7 +20,8 @@ use Rattle.rules.specs.Marks.{defer_from, mark}
 use Rattle.rules.specs.Theorems.{Taken, given_back, Moves, Fits}
 use Rattle.rules.specs.Law.{Exists, Accounted}
 use Rattle.rules.specs.Invariant.{Summed, Fair}
-use Rattle.rules.proofs.Entries.{entry-map, entry-replicate}
+use Rattle.std.proofs.Math.ListN.{get_or-map}
+use Rattle.rules.proofs.Entries.{entry-replicate}
 use Rattle.rules.proofs.Rows.{becomes_empty}
 use Rattle.rules.proofs.Counts.{sum_split, sum_plus, sum-zero, sum-replicate, count-release, length_back, back_is-held, outs_back}
 use Rattle.rules.proofs.Balanced.{units_of, enter, leave, balanced_defer, balanced_defers, balanced_take, balanced_records}
@@ -182,7 +183,7 @@ settle d = holding d (settled d.contents)
 
 module _ (F : Figures) (b : Book) (hs : List Holder) (us : List Bool) (a : Accounted F b hs us) (s : Summed b hs us) where
   settled_at : (v : ℕ) → dataset (next F b turn) v ≡ settle (dataset b v)
-  settled_at v = entry-map settle none none refl b.datasets v
+  settled_at v = get_or-map settle b.datasets v none
 
   exists_released : (h : Holder) → Exists b h → Exists (next F b turn) (release h)
   exists_released Nobody x = tt
@@ -208,7 +209,7 @@ module _ (F : Figures) (b : Book) (hs : List Holder) (us : List Bool) (a : Accou
           as_many_holders = length-map hs release ∙ a.as_many_holders;
           out_where_held = back_is-held us hs long a.out_where_held;
           holders_exist =
-              λ u. subst (λ (h : Holder). Exists (next F b turn) h) (sym (entry-map release Nobody Nobody refl hs u))
+              λ u. subst (λ (h : Holder). Exists (next F b turn) h) (sym (get_or-map release hs u Nobody))
               (exists_released (get_or hs u Nobody) (a.holders_exist u));
           record_units =
               λ v r. released.records v r ∙ a.record_units v r ∙ sym (ap (λ (d : Dataset). get_or d.contents.units r 0) (settled_at v));

@@ -17,7 +17,7 @@ use Rattle.rules.specs.Marks.{defer_from}
 use Rattle.rules.specs.Theorems.{outs, Taken}
 use Rattle.rules.specs.Law.{Exists, Accounted}
 use Rattle.rules.specs.Invariant.{Summed}
-use Rattle.rules.proofs.Entries.{entry-map}
+use Rattle.std.proofs.Math.ListN.{get_or-map}
 use Rattle.rules.proofs.Counts.{same_self, held-some, defer-held, count-defer, length-handed, handed-at, handed-held, count-handed}
 
 -- the units of a dataset, deferred ones too
@@ -146,9 +146,9 @@ module _ (F : Figures) (b : Book) (v : ℕ) (lv : v < made b) (is-volume : (data
         as_many_units = a.as_many_units;
         as_many_holders = length-map hs (defer v r) ∙ a.as_many_holders;
         out_where_held =
-            λ u. a.out_where_held u ∙ sym (ap is_held (entry-map (defer v r) Nobody Nobody refl hs u) ∙ defer-held v r (get_or hs u Nobody));
+            λ u. a.out_where_held u ∙ sym (ap is_held (get_or-map (defer v r) hs u Nobody) ∙ defer-held v r (get_or hs u Nobody));
         holders_exist =
-            λ u. subst (λ (h : Holder). ExistsWith b v c.records h) (sym (entry-map (defer v r) Nobody Nobody refl hs u))
+            λ u. subst (λ (h : Holder). ExistsWith b v c.records h) (sym (get_or-map (defer v r) hs u Nobody))
             (exists_defer c.records (same (Record v r) (get_or hs u Nobody)) (get_or hs u Nobody) (a.holders_exist u));
         own_records =
             λ s. elim (cases_eq s r) [

@@ -11,7 +11,7 @@ use Rattle.rules.specs.declared.state.Holder.{Holder}
 use Rattle.rules.specs.declared.state.Holder.TheVariants.{Nobody, Record, Deferred}
 use Rattle.rules.specs.Holders.{same, count, is_held, is_deferred, defer, release, taken, handed}
 use Rattle.rules.specs.Theorems.{outs, Taken, given_back}
-use Rattle.rules.proofs.Entries.{entry-map}
+use Rattle.std.proofs.Math.ListN.{get_or-map}
 
 -- Sums over a list that is mapped.
 
@@ -187,7 +187,7 @@ back_one a (Deferred v) e = rw e refl
 module _ (us : List Bool) (hs : List Holder) (long : length hs ≡ length us) (held : (u : ℕ) → get_or us u false ≡ is_held (get_or hs u Nobody)) where
   pub back_is-held : (u : ℕ) → get_or (given_back us hs) u false ≡ is_held (get_or (map release hs) u Nobody)
   back_is-held u =
-      back_at us hs u ∙ back_held (get_or us u false) (get_or hs u Nobody) (held u) ∙ sym (ap is_held (entry-map release Nobody Nobody refl hs u))
+      back_at us hs u ∙ back_held (get_or us u false) (get_or hs u Nobody) (held u) ∙ sym (ap is_held (get_or-map release hs u Nobody))
 
   pub outs_back : outs (given_back us hs) + count_by is_deferred hs ≡ outs us
   outs_back =

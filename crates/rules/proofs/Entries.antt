@@ -1,5 +1,5 @@
--- What holds of every entry of a list, after one is set or added, or all are changed.
-use Rattle.std.proofs.Common.{◌≡◌, ℕ, zero, suc, ◌<◌, ◌≢◌, List, [], ◌∷◌, ◌++◌, map, length, get_or, set, replicate, sym, refl, ap, ◌∙◌, subst, inl, inr, arith}
+-- What holds of every entry of a list, after one is set or added, and of a list of equal entries.
+use Rattle.std.proofs.Common.{◌≡◌, ℕ, zero, suc, ◌<◌, ◌≢◌, List, [], ◌∷◌, ◌++◌, length, get_or, set, replicate, sym, refl, ap, ◌∙◌, subst, inl, inr, arith}
 use Rattle.std.proofs.lemmas.List.{length_push, get_or_past, get_or_push, get_or_append_left, get_or-set_same, get_or-set_other}
 use Rattle.std.proofs.lemmas.Bool.{cases_eq, cases_order}
 
@@ -16,11 +16,6 @@ module _ {X : Type 0} (P : X → Type 0) (xs : List X) where
     | inr (inl l) ↦ subst P (sym (get_or_append_left xs (y ∷ []) d j l)) (before l)
     | inr (inr l) ↦ subst P (sym (get_or_past (xs ++ y ∷ []) j d (omega (arith, length_push xs y)))) (past l)
   ]
-
-pub entry-map : {X Y : Type 0} (f : X → Y) (d : X) (e : Y) → f d ≡ e → (xs : List X) (j : ℕ) → get_or (map f xs) j e ≡ f (get_or xs j d)
-entry-map f d e h [] j = sym h
-entry-map f d e h (x ∷ xs) zero = refl
-entry-map f d e h (x ∷ xs) (suc j) = entry-map f d e h xs j
 
 -- all alike
 pub entry-replicate : {X : Type 0} (n j : ℕ) (d : X) → get_or (replicate n d) j d ≡ d

@@ -15,7 +15,7 @@ use Rattle.rules.specs.Figures.{Figures}
 use Rattle.rules.specs.Book.{Dataset, Book, empty, new, dataset, transaction, made, volume_of, writes_of, frees_of, estimate, grant_on, unspent_grants, own, deferred, row_at, rows}
 use Rattle.rules.specs.Effects.{with_units, emptied, emptied_from, resized, settled, holding, with_quota, with_reservation, with_new, with_dataset, with_contents, with_transaction, next}
 use Rattle.rules.specs.Invariant.{Shaped, ShapedTransaction}
-use Rattle.rules.proofs.Entries.{entry-map}
+use Rattle.std.proofs.Math.ListN.{get_or-map}
 use Rattle.rules.proofs.Counts.{sum-replicate}
 
 pub rows-length : (F : Figures) (b : Book) → length (rows F b) ≡ made b
@@ -381,7 +381,7 @@ pub rows-volume : (F : Figures) (b : Book) (p r : ℕ) (n : List ℕ) → Shaped
 rows-volume F b p r n shaped = rows_new F b (new p Volume (empty n r)) shaped (held-empty n r)
 
 pub dataset-turn : (F : Figures) (b : Book) (d : ℕ) → dataset (next F b turn) d ≡ holding (dataset b d) (settled (dataset b d).contents)
-dataset-turn F b d = entry-map (λ (x : Dataset). holding x (settled x.contents)) nowhere nowhere refl b.datasets d
+dataset-turn F b d = get_or-map (λ (x : Dataset). holding x (settled x.contents)) b.datasets d nowhere
 
 pub made-turn : (F : Figures) (b : Book) → made (next F b turn) ≡ made b
 made-turn F b = length-map b.datasets (λ (x : Dataset). holding x (settled x.contents))

@@ -16,7 +16,7 @@ charges_in nodes = map (λ node. node.charge) nodes
 abbrev pub kinds_in : List Node → List Kind
 kinds_in nodes = map (λ node. node.kind) nodes
 
--- old is new but for the charges that are kept
+-- new is old but for the charges that are kept
 pub record SamePlaces (old new : List Node) : Type 0 where
   pub same_rows : rows_in new ≡ rows_in old
   pub same_kinds : kinds_in new ≡ kinds_in old
