@@ -1,5 +1,5 @@
 -- The steps of a transaction against the rules' answers and effects.
-use Rattle.std.proofs.Common.{◌≡◌, ℕ, ◌+◌, ◌-◌, ◌<◌, Bool, true, false, cond, ◌||◌, eqb, ltb, leb, List, get_or, pos, Ok, Err, Result, sym, refl, ap, ◌∙◌, zero-add, arith}
+use Rattle.std.proofs.Common.{◌≡◌, ℕ, ◌+◌, ◌-◌, ◌<◌, Bool, true, false, cond, ◌||◌, eqb, ltb, leb, List, get_or, pos, Ok, Err, Result, sym, refl, ap, ◌∙◌, zero-add}
 use Rattle.std.proofs.lemmas.Bool.{ltb-true}
 use Rattle.orders.specs.declared.answer.Answer.{Answer}
 use Rattle.orders.specs.declared.answer.Answer.TheVariants.{Done, Refused}
@@ -24,13 +24,13 @@ and_then (Ok x) k = k x
 and_then (Err f) k = Refused (refusal_of f)
 
 err_not_ok : {X T : Type 0} (f : LedgerFault) (x : X) → ◌≡◌ {A = Result X LedgerFault} (Err f) (Ok x) → T
-err_not_ok f x e = let z : ◌≡◌ {A = ℕ} 0 1 = cc in absurd (omega arith)
+err_not_ok f x e = absurd cc
 
 ok_is : {X : Type 0} (x y : X) → ◌≡◌ {A = Result X LedgerFault} (Ok x) (Ok y) → x ≡ y
 ok_is x y e = cc
 
 pub ok_not_err : {X T E : Type 0} (x : X) (f : E) → ◌≡◌ {A = Result X E} (Ok x) (Err f) → T
-ok_not_err x f e = let z : ◌≡◌ {A = ℕ} 0 1 = cc in absurd (omega arith)
+ok_not_err x f e = absurd cc
 
 -- what a change that is allowed says
 pub record Allowed (ts : List Transaction) (t : ℕ) (a : Asked) (c : Change) : Type 0 where

@@ -74,10 +74,10 @@ module _ (t : Tally) (x : ℕ) (busy : transaction (book_of t) x ≢ Idle) where
   volume-listed = omega (arith, volume-made, made-is t.tree t.contents t.transactions)
 
 held_busy : (x : Transaction) (v w f : ℕ) → x ≡ Held v w f → x ≢ Idle
-held_busy x v w f e i = let z : ◌≡◌ {A = ℕ} 0 1 = cc in omega arith
+held_busy x v w f e i = cc
 
 pub assigned_busy : (x : Transaction) (v w f : ℕ) → x ≡ Assigned v w f → x ≢ Idle
-assigned_busy x v w f e i = let z : ◌≡◌ {A = ℕ} 0 1 = cc in omega arith
+assigned_busy x v w f e i = cc
 
 module _ (t : Tally) (x : ℕ) (c : Change) (e : change_of t.transactions x Assign ≡ Ok c) where
   assign_state : (transaction (book_of t) x ≡ Held (volume_of (transaction (book_of t) x)) (writes_of (transaction (book_of t) x)) (frees_of (transaction (book_of t) x)))

@@ -278,12 +278,12 @@ none-count (x ∷ xs) none =
     )
 
 none_by : (q : Bool) (i : ℕ) → ◌≡◌ {A = Option ℕ} (cond q (Some i) None) None → q ≡ false
-none_by true i e = let z : ◌≡◌ {A = ℕ} 0 1 = cc in absurd (omega arith)
+none_by true i e = absurd cc
 none_by false i e = refl
 
 some_by : (q : Bool) (i j : ℕ) → ◌≡◌ {A = Option ℕ} (cond q (Some i) None) (Some j) → i ≡ j
 some_by true i j e = cc
-some_by false i j e = let z : ◌≡◌ {A = ℕ} 0 1 = cc in absurd (omega arith)
+some_by false i j e = absurd cc
 
 module _ (ts : List Transaction) where
   pub none_waits : position is_assigned ts ≡ None → turn_or ts ≡ Ok tt
