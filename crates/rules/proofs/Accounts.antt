@@ -21,9 +21,10 @@ use Rattle.rules.specs.Theorems.{Taken, given_back, Moves, Fits}
 use Rattle.rules.specs.Law.{Exists, Accounted}
 use Rattle.rules.specs.Invariant.{Summed, Fair}
 use Rattle.std.proofs.Math.ListN.{get_or-map}
+use Rattle.std.proofs.lemmas.List.Folds.{sum_by-replicate}
 use Rattle.rules.proofs.Entries.{entry-replicate}
 use Rattle.rules.proofs.Rows.{becomes_empty}
-use Rattle.rules.proofs.Counts.{sum_split, sum_plus, sum-zero, sum-replicate, count-release, length_back, back_is-held, outs_back}
+use Rattle.rules.proofs.Counts.{sum_split, sum_plus, sum-zero, count-release, length_back, back_is-held, outs_back}
 use Rattle.rules.proofs.Balanced.{units_of, enter, leave, balanced_defer, balanced_defers, balanced_take, balanced_records}
 use Rattle.rules.proofs.Accepted.{quota_ok, reserve_ok, resize_ok, write_ok, free_ok}
 
@@ -61,7 +62,7 @@ pub summed-fresh : (F : Figures) → Summed fresh (replicate F.size Nobody) (rep
 unfolding fresh
 summed-fresh F =
     record {
-      all_out = count-replicate (λ (out : Bool). out) false refl F.size ∙ sym (sum-replicate 64);
+      all_out = count-replicate (λ (out : Bool). out) false refl F.size ∙ sym (sum_by-replicate (λ (x : ℕ). x) 64 0);
       all_deferred_counted = count-replicate is_deferred Nobody refl F.size;
     }
 
@@ -286,9 +287,9 @@ module _ (F : Figures) (b : Book) (hs : List Holder) (us : List Bool) (fair : Fa
 pub accounted-next : (F : Figures) (b : Book) (hs : List Holder) (us vs : List Bool) (m : Meaning) (k : ℕ) → Sane F → Fits m → Fair F b hs us →
     answer F b m ≡ Done k → Moves F m hs us vs → Accounted F (next F b m) (mark b m us vs hs) vs × Summed (next F b m) (mark b m us vs hs) vs
 accounted-next F b hs us vs (folder p n) k sane fits fair ok moves =
-    alike F b hs us fair _ vs (alike-new b (new p Folder (empty n 0)) (λ r. refl) (sum-replicate 64) refl) moves
+    alike F b hs us fair _ vs (alike-new b (new p Folder (empty n 0)) (λ r. refl) (sum_by-replicate (λ (x : ℕ). x) 64 0) refl) moves
 accounted-next F b hs us vs (volume p r n) k sane fits fair ok moves =
-    alike F b hs us fair _ vs (alike-new b (new p Volume (empty n r)) (λ s. refl) (sum-replicate 64) refl) moves
+    alike F b hs us fair _ vs (alike-new b (new p Volume (empty n r)) (λ s. refl) (sum_by-replicate (λ (x : ℕ). x) 64 0) refl) moves
 accounted-next F b hs us vs (quota d u) k sane fits fair ok moves =
     alike F b hs us fair _ vs (alike-dataset b d (with_quota (dataset b d) u) (quota_ok F b k d u ok).1 refl refl) moves
 accounted-next F b hs us vs (reserve d u) k sane fits fair ok moves =

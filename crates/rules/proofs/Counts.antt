@@ -1,5 +1,5 @@
 -- Counting the holders of units: where a record's units become deferred, where deferred ones come back, and where units are taken.
-use Rattle.std.proofs.Common.{◌≡◌, ℕ, zero, suc, ◌+◌, ◌<◌, ◌≤◌, Bool, true, false, cond, not, ◌&&◌, List, [], ◌∷◌, map, length, get_or, replicate, sum_by, sum, count_by, sym, refl, ap, ◌∙◌, inl, inr, arith}
+use Rattle.std.proofs.Common.{◌≡◌, ℕ, ◌+◌, ◌<◌, ◌≤◌, Bool, true, false, cond, not, ◌&&◌, List, [], ◌∷◌, map, length, get_or, sum_by, count_by, sym, refl, ap, ◌∙◌, inl, inr, arith}
 use Rattle.std.specs.List.{range_with_len}
 use Rattle.std.proofs.lemmas.List.FromFn.{length-map-range_with_len, get_or-map-range_with_len}
 use Rattle.std.proofs.lemmas.List.{get_or_past}
@@ -31,10 +31,6 @@ sum_plus p q (x ∷ xs) =
 pub sum-zero : {X : Type 0} (g : X → ℕ) → ((x : X) → g x ≡ 0) → (xs : List X) → sum_by g xs ≡ 0
 sum-zero g e [] = refl
 sum-zero g e (x ∷ xs) = let i = sum-zero g e xs in omega (arith, sum_by-cons g x xs, e x)
-
-pub sum-replicate : (n : ℕ) → sum (replicate n 0) ≡ 0
-sum-replicate zero = refl
-sum-replicate (suc n) = let i = sum-replicate n in omega (arith, sum_by-cons (λ (x : ℕ). x) 0 (replicate n 0))
 
 -- a list by its places, past its end too
 pub counted-at : {X : Type 0} (f : ℕ → X) (n u : ℕ) (d : X) → (n ≤ u → f u ≡ d) → get_or (map f (range_with_len 0 n)) u d ≡ f u

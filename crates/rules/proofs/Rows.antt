@@ -16,7 +16,7 @@ use Rattle.rules.specs.Book.{Dataset, Book, empty, new, dataset, transaction, ma
 use Rattle.rules.specs.Effects.{with_units, emptied, emptied_from, resized, settled, holding, with_quota, with_reservation, with_new, with_dataset, with_contents, with_transaction, next}
 use Rattle.rules.specs.Invariant.{Shaped, ShapedTransaction}
 use Rattle.std.proofs.Math.ListN.{get_or-map}
-use Rattle.rules.proofs.Counts.{sum-replicate}
+use Rattle.std.proofs.lemmas.List.Folds.{sum_by-replicate}
 
 pub rows-length : (F : Figures) (b : Book) → length (rows F b) ≡ made b
 unfolding rows
@@ -156,7 +156,7 @@ abbrev pub held_by : Contents → ℕ
 held_by c = sum c.units + c.deferred
 
 pub held-empty : (name : List ℕ) (n : ℕ) → held_by (empty name n) ≡ 0
-held-empty name n = ap (λ (x : ℕ). x + 0) (sum-replicate 64)
+held-empty name n = ap (λ (x : ℕ). x + 0) (sum_by-replicate (λ (x : ℕ). x) 64 0)
 
 pub held-emptied : (c : Contents) (r : ℕ) → r < length c.units → held_by (emptied c r) ≡ held_by c
 held-emptied c r l = omega (arith, sum_by-set (λ (n : ℕ). n) c.units r 0 0 l)
