@@ -1,6 +1,6 @@
 -- How far a run has come: what was exchanged, and what is left to say.
 use Rattle.std.proofs.Common.{◌≡◌, ℕ, zero, suc, ◌+◌, ◌<◌, ◌≤◌, cond, ltb, List, [], ◌∷◌, ◌++◌, length, set, Option, Result, Ok, Err, sym, refl, ap, ◌∙◌, append_assoc, arith}
-use Rattle.std.proofs.lemmas.List.{length-append, length_push, append-nil}
+use Rattle.std.proofs.lemmas.List.{length-append, length_push, length-set, append-nil}
 use Rattle.std.proofs.lemmas.Bool.{lt-ltb, le-ltb, cond-true, cond-false}
 use Rattle.orders.specs.Meaning.{Meaning}
 use Rattle.orders.specs.Layout.{answer_bytes, laid}
@@ -14,7 +14,7 @@ use Rattle.reader.specs.declared.fault.ReadFault.{ReadFault}
 use Rattle.runner.specs.declared.ended.Ended.{Ended}
 use Rattle.runner.specs.declared.fault.ScriptFault.{ScriptFault}
 use Rattle.runner.specs.declared.fault.ScriptFault.TheVariants.{Unreadable, NoRoom}
-use Rattle.runner.specs.Runs.{Ran, more, ends, ran_from, exchanges_in, stop_of, end_of}
+use Rattle.runner.specs.Runs.{Ran, more, ends, ran_from, exchanges_in, stop_of, ended_with, end_of}
 
 -- exchanges, and then the rest of a run
 abbrev then : List Exchange → Ran → Ran
@@ -43,6 +43,10 @@ laid_append out at [] cs = let e : at ≡ at + 0 = omega arith in ap (λ (n : �
 laid_append out at (b ∷ bs) cs =
     let e : (at + 1) + length bs ≡ at + suc (length bs) = omega arith in
     laid_append (set out at b) (at + 1) bs cs ∙ ap (λ (n : ℕ). laid (laid (set out at b) (at + 1) bs) n cs) e
+
+length-laid : (out : List ℕ) (at : ℕ) (bs : List ℕ) → length (laid out at bs) ≡ length out
+length-laid out at [] = refl
+length-laid out at (b ∷ bs) = length-laid (set out at b) (at + 1) bs ∙ length-set out at b
 
 -- after n orders and w answer bytes, at place p with the book b
 pub record Going (F : Figures) (s : List ℕ) (b₀ : Book) (out₀ : List ℕ) (b : Book) (p n w : ℕ) (out : List ℕ) (xs : List Exchange) : Type 0 where
@@ -102,10 +106,7 @@ pub record Done (F : Figures) (s : List ℕ) (b₀ : Book) (out₀ : List ℕ) (
   pub laid_so : out ≡ laid out₀ 0 (bytes_of xs)
   pub within_so : r.written ≤ length out₀
 
-abbrev pub ended : Result ℕ ScriptFault → ℕ → ℕ → Ended
-ended z n w = record { stop = z; answered = n; written = w }
-
-ended_at : (xs : List Exchange) (z : Result ℕ ScriptFault) (n w : ℕ) → n ≡ length xs → w ≡ length (bytes_of xs) → ended z n w ≡ end_of (then xs (ends z))
+ended_at : (xs : List Exchange) (z : Result ℕ ScriptFault) (n w : ℕ) → n ≡ length xs → w ≡ length (bytes_of xs) → ended_with z n w ≡ end_of (then xs (ends z))
 ended_at xs z n w en ew =
     let a = then_in xs z in
     let b = then-stop xs z in
@@ -113,8 +114,11 @@ ended_at xs z n w en ew =
     let e : length (bytes_of (exchanges_in (then xs (ends z)))) ≡ length (bytes_of xs) = ap (λ (ys : List Exchange). length (bytes_of ys)) a in
     cc
 
+pub long : (F : Figures) (s : List ℕ) (b₀ : Book) (out₀ : List ℕ) (b : Book) (p n w : ℕ) (out : List ℕ) (xs : List Exchange) → Going F s b₀ out₀ b p n w out xs → length out ≡ length out₀
+long F s b₀ out₀ b p n w out xs g = ap length g.laid_so ∙ length-laid out₀ 0 (bytes_of xs)
+
 module _ (F : Figures) (s : List ℕ) (b₀ : Book) (out₀ : List ℕ) (b : Book) (p n w : ℕ) (out : List ℕ) (xs : List Exchange) (g : Going F s b₀ out₀ b p n w out xs) where
-  stop : (z : Result ℕ ScriptFault) → ran_from g.fuel F s (length out₀) b p w ≡ ends z → Done F s b₀ out₀ out xs (ended z n w)
+  stop : (z : Result ℕ ScriptFault) → ran_from g.fuel F s (length out₀) b p w ≡ ends z → Done F s b₀ out₀ out xs (ended_with z n w)
   stop z e =
       let all : then xs (ends z) ≡ ran_from (length s + 1) F s (length out₀) b₀ 0 0 = ap (then xs) (sym e) ∙ g.same in
       record {
@@ -124,19 +128,19 @@ module _ (F : Figures) (s : List ℕ) (b₀ : Book) (out₀ : List ℕ) (b : Boo
         within_so = g.fits;
       }
 
-  pub at_the_end : decode s p ≡ finished → Done F s b₀ out₀ out xs (ended (Ok p) n w)
+  pub at_the_end : decode s p ≡ finished → Done F s b₀ out₀ out xs (ended_with (Ok p) n w)
   at_the_end e = stop (Ok p) (at_end F s (length out₀) b p w g.fuel e)
 
   some-fuel : (f : ℕ) → g.fuel ≡ f → p < length s → (f' : ℕ) × (g.fuel ≡ suc f')
   some-fuel zero e l = absurd (omega (arith, g.enough))
   some-fuel (suc f) e l = (f, e)
 
-  pub at_a_fault : (d : ReadFault) → decode s p ≡ fault d → Done F s b₀ out₀ out xs (ended (Err (Unreadable d)) n w)
+  pub at_a_fault : (d : ReadFault) → decode s p ≡ fault d → Done F s b₀ out₀ out xs (ended_with (Err (Unreadable d)) n w)
   at_a_fault d e =
       let f = some-fuel g.fuel refl (within-fault s p d e) in
       stop (Err (Unreadable d)) (ap (λ (x : ℕ). ran_from x F s (length out₀) b p w) f.1 ∙ at-fault F s (length out₀) b p w f.0 d e)
 
-  pub no_room : (q : ℕ) (m : Meaning) (o : Option ℕ) → decode s p ≡ order m o q → length out₀ < w + 17 → Done F s b₀ out₀ out xs (ended (Err (NoRoom p)) n w)
+  pub no_room : (q : ℕ) (m : Meaning) (o : Option ℕ) → decode s p ≡ order m o q → length out₀ < w + 17 → Done F s b₀ out₀ out xs (ended_with (Err (NoRoom p)) n w)
   no_room q m o e l =
       let f = some-fuel g.fuel refl (within s p q m o e) in
       stop (Err (NoRoom p))

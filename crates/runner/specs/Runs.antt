@@ -40,6 +40,10 @@ abbrev pub stop_of : Ran → Result ℕ ScriptFault
 stop_of (more x r) = stop_of r
 stop_of (ends s) = s
 
+-- how a run stopped, how many orders it answered, and how many bytes it wrote
+abbrev pub ended_with : Result ℕ ScriptFault → ℕ → ℕ → Ended
+ended_with z n w = record { stop = z; answered = n; written = w }
+
 -- what a run returns
 abbrev pub end_of : Ran → Ended
 end_of r = record { stop = stop_of r; answered = length (exchanges_in r); written = length (bytes_of (exchanges_in r)) }

@@ -2,12 +2,11 @@
 ghost use Rattle.std.specs.Prelude.{◌≡◌, ◌+◌, ◌≤◌, length, Some};
 ghost use Rattle.orders.specs.Layout.{answer_bytes, laid};
 ghost use Rattle.orders.specs.Meaning.{meaning};
-ghost use Rattle.rules.specs.Answers.{answer as answer_to};
 ghost use Rattle.rules.specs.Served.{bytes_of};
 ghost use Rattle.ledger.specs.Parts.{book_of, figures};
 ghost use Rattle.ledger.specs.Serves.{Through};
 ghost use Rattle.runner.specs.Faults.{answer_at, AtPlace};
-ghost use Rattle.runner.specs.Runs.{end_of, exchanges_in, ran};
+ghost use Rattle.runner.specs.Runs.{end_of, ended_with, exchanges_in, ran};
 ghost use Rattle.runner.specs.Steps.{One};
 
 use super::ended::Ended;
@@ -50,24 +49,65 @@ fn answer(res: Result<Reply, ScriptFault>) -> Answer
     }
 }
 
-// Obeys the order that begins at the place, and writes its answer behind those written; how many bytes the answer has.
-fn answer_order<A: Allocator, P: CostPolicy>(
-    ledger: &mut Ledger<A, P>,
-    order: Order<'_>,
-    place: usize,
-    answers: &mut [u8],
+// The answers so far: the bytes that they may have, how many of those are written, and how many orders are answered.
+#[derive(Drop)]
+struct Output<'a> {
+    bytes: &'a mut [u8],
     written: usize,
-) -> usize
-    requires { written + 17 ≤ length answers.old }
-    ensures one { One ledger.old ledger.new (meaning order.entry) (answer_to (figures ledger.old) (book_of ledger.old) (meaning order.entry)) }
-    ensures count { result ≡ length (answer_bytes (answer_to (figures ledger.old) (book_of ledger.old) (meaning order.entry))) }
-    ensures bytes { answers.new ≡ laid answers.old written (answer_bytes (answer_to (figures ledger.old) (book_of ledger.old) (meaning order.entry))) }
+    answered: usize,
+}
+
+impl Output<'_> {
+    // How many bytes are left.
+    fn room(&self) -> usize
+        requires { self.now.written ≤ length self.now.bytes.now }
+        ensures { result + self.now.written ≡ length self.now.bytes.now }
+    {
+        self.bytes.len() - self.written
+    }
+
+    // Writes an answer behind those written.
+    fn push(&mut self, answer: Answer)
+        requires { self.old.written + length (answer_bytes answer) ≤ length self.old.bytes.now }
+        ensures bytes { self.new.bytes.now ≡ laid self.old.bytes.now self.old.written (answer_bytes answer) }
+        ensures written { self.new.written ≡ self.old.written + length (answer_bytes answer) }
+        ensures answered { self.new.answered ≡ self.old.answered }
+        ensures same_reference { self.new.bytes.ghost_name ≡ self.old.bytes.ghost_name }
+    {
+        let Ok(count) = answer.write_to(self.bytes, self.written) else {
+            unreachable()
+        };
+        self.written += count;
+    }
+}
+
+// Obeys the orders of a script one by one, and writes each answer behind the last, until no further one can be read or answered.
+fn run_orders<A: Allocator, P: CostPolicy>(
+    ledger: &mut Ledger<A, P>,
+    script: &[u8],
+    out: &mut Output<'_>,
+) -> Result<usize, ScriptFault>
+    requires few { length script.now ≤ 4096 }
+    requires none { (out.old.written ≡ 0) × (out.old.answered ≡ 0) }
+    ensures ended { ended_with result out.new.answered out.new.written ≡ end_of (ran (figures ledger.old) script.now (length out.old.bytes.now) (book_of ledger.old)) }
+    ensures bytes { out.new.bytes.now ≡ laid out.old.bytes.now 0 (bytes_of (exchanges_in (ran (figures ledger.old) script.now (length out.old.bytes.now) (book_of ledger.old)))) }
+    ensures within { out.new.written ≤ length out.old.bytes.now }
+    ensures through { Through ledger.old ledger.new (exchanges_in (ran (figures ledger.old) script.now (length out.old.bytes.now) (book_of ledger.old))) }
+    ensures same_reference { out.new.bytes.ghost_name ≡ out.old.bytes.ghost_name }
 {
-    let said = answer(obey_at(ledger, order, place));
-    let Ok(count) = said.write_to(answers, written) else {
-        unreachable()
-    };
-    count
+    let mut reader = Reader::new(script);
+    'orders: loop {
+        let place = reader.place();
+        let Some(order) = reader.next_order()? else {
+            return Ok(place);
+        };
+        if out.room() < LONGEST_ANSWER {
+            return Err(ScriptFault::NoRoom { place });
+        }
+        let said = answer(obey_at(ledger, order, place));
+        out.push(said);
+        out.answered += 1;
+    }
 }
 
 /// Runs a script: reads order after order, obeys each, and writes each answer behind the last, also after a refusal. It stops
@@ -90,26 +130,15 @@ pub fn run<A: Allocator, P: CostPolicy>(
             written: 0,
         };
     }
-    let mut reader = Reader::new(script);
-    let mut answered = 0;
-    let mut written = 0;
-    let stop = 'orders: loop {
-        let place = reader.place();
-        match reader.next_order() {
-            Err(fault) => break Err(ScriptFault::from(fault)),
-            Ok(None) => break Ok(place),
-            Ok(Some(order)) => {
-                if answers.len() - written < LONGEST_ANSWER {
-                    break Err(ScriptFault::NoRoom { place });
-                }
-                written += answer_order(ledger, order, place, answers, written);
-                answered += 1;
-            }
-        }
+    let mut out = Output {
+        bytes: answers,
+        written: 0,
+        answered: 0,
     };
+    let stop = run_orders(ledger, script, &mut out);
     Ended {
         stop,
-        answered,
-        written,
+        answered: out.answered,
+        written: out.written,
     }
 }

@@ -59,11 +59,6 @@ abbrev pub PlanChecked : ℕ → ℕ → Scheme → Result (Unit {0}) SetupFault
 PlanChecked n slop scheme (Ok _) = (slop < n) × SchemeFits scheme
 PlanChecked n slop scheme (Err f) = Refuses (Unit {0}) n slop scheme f × (setup_number f ≢ 20)
 
--- whether a set-up can be made
-abbrev pub SetupChecked : Type 0 → ℕ → ℕ → Scheme → Result (Unit {0}) SetupFault → Type 0
-SetupChecked Able n slop scheme (Ok _) = Able × (slop < n) × SchemeFits scheme
-SetupChecked Able n slop scheme (Err f) = Refuses Able n slop scheme f
-
 -- What a call answers that runs the script s: the end of the run, or why there was none, and then no answer is written.
 abbrev pub Called : Type 0 → ℕ → ℕ → Scheme → List ℕ → List ℕ → List ℕ → Result Ended SetupFault → Type 0
 Called Able n slop scheme s out after (Ok e) = Able × (slop < n) × SchemeFits scheme × Ran (plan n slop scheme) s out after e

@@ -6,7 +6,7 @@ ghost use Rattle.pool.specs.Links.{Space};
 ghost use Rattle.pool.specs.Marks.{Room};
 ghost use Rattle.pool.specs.Units.{Checked as PoolChecked};
 ghost use Rattle.setup.specs.Schemes.{SchemeFits, plan};
-ghost use Rattle.setup.specs.Setups.{Called, NestedRoom, PairRoom, PlanChecked, RunWith, SetupChecked, Unwritten};
+ghost use Rattle.setup.specs.Setups.{Called, NestedRoom, PairRoom, PlanChecked, RunWith, Unwritten};
 
 use super::fault::SetupFault;
 use super::scheme::Scheme;
@@ -59,7 +59,8 @@ fn run_under<A: Allocator>(
     }
 }
 
-// Refuses a slop that is not below the units, and figures that no policy has.
+// Refuses a slop that is not below the units, and figures that no policy has. A struct of the slop and the scheme is no plainer:
+// each call would make it of its two parameters to pass it on twice.
 fn check_plan(units: usize, slop: u16, scheme: Scheme) -> Result<(), SetupFault>
     ensures { PlanChecked units slop scheme result }
 {
@@ -70,13 +71,8 @@ fn check_plan(units: usize, slop: u16, scheme: Scheme) -> Result<(), SetupFault>
     Ok(())
 }
 
-// Whether a ledger can be made over a bitmap.
-fn check_bitmap(memory: &[u8], units: usize, slop: u16, scheme: Scheme) -> Result<(), SetupFault>
-    ensures { SetupChecked (Room memory.now units) units slop scheme result }
-{
-    Bitmap::check(units, memory)?;
-    check_plan(units, slop, scheme)
-}
+// Each of the next four checks its memory and lends it then, so that a refusal writes nothing. One function over a trait of
+// memories is no plainer: it would take each memory twice, shared for the check and lent for the making.
 
 /// Runs a script on a new ledger over a bitmap of so many units. A refusal writes nothing.
 pub fn run_on_bitmap(
@@ -90,18 +86,11 @@ pub fn run_on_bitmap(
     ensures ran { Called (Room memory.old units) units slop scheme script.now answers.old answers.new result }
     ensures unwritten { Unwritten memory.old memory.new result }
 {
-    check_bitmap(memory, units, slop, scheme)?;
+    Bitmap::check(units, memory)?;
+    check_plan(units, slop, scheme)?;
     let bits = Bitmap::make(units, memory);
     let (ended, _) = run_under(bits, slop, scheme, script, answers);
     Ok(ended)
-}
-
-// Whether a ledger can be made over a chain.
-fn check_chain(links: &[u16], units: usize, slop: u16, scheme: Scheme) -> Result<(), SetupFault>
-    ensures { SetupChecked (Space links.now units) units slop scheme result }
-{
-    Chain::check(units, links)?;
-    check_plan(units, slop, scheme)
 }
 
 /// Runs a script on a new ledger over a chain of so many units. A refusal writes nothing.
@@ -116,10 +105,22 @@ pub fn run_on_chain(
     ensures ran { Called (Space links.old units) units slop scheme script.now answers.old answers.new result }
     ensures unwritten { Unwritten links.old links.new result }
 {
-    check_chain(links, units, slop, scheme)?;
+    Chain::check(units, links)?;
+    check_plan(units, slop, scheme)?;
     let chain = Chain::make(units, links);
     let (ended, _) = run_under(chain, slop, scheme, script, answers);
     Ok(ended)
+}
+
+// Whether two allocators of so many units make a pair.
+fn check_few(first: usize, second: usize) -> Result<(), AllocatorFault>
+    requires { (first ≤ 4096) × (second ≤ 4096) }
+    ensures { PoolChecked (first + second ≤ 4096) result }
+{
+    if first + second > 4096 {
+        return Err(AllocatorFault::BadSize);
+    }
+    Ok(())
 }
 
 // Whether a bitmap and a chain fit their memory and make a pair.
@@ -133,24 +134,7 @@ fn check_pair(
 {
     Bitmap::check(first, memory)?;
     Chain::check(second, links)?;
-    if first + second > 4096 {
-        return Err(AllocatorFault::BadSize);
-    }
-    Ok(())
-}
-
-// Whether a ledger can be made over a bitmap joined with a chain.
-fn check_joined(
-    memory: &[u8],
-    links: &[u16],
-    units: [usize; 2],
-    slop: u16,
-    scheme: Scheme,
-) -> Result<(), SetupFault>
-    ensures { SetupChecked (PairRoom memory.now links.now (slice_index units 0) (slice_index units 1)) (slice_index units 0 + slice_index units 1) slop scheme result }
-{
-    check_pair(memory, links, units[0], units[1])?;
-    check_plan(units[0] + units[1], slop, scheme)
+    check_few(first, second)
 }
 
 /// Runs a script on a new ledger over a bitmap of `units[0]` units joined with a chain of `units[1]`. A refusal writes nothing.
@@ -167,41 +151,13 @@ pub fn run_on_joined(
     ensures memory { Unwritten memory.old memory.new result }
     ensures links { Unwritten links.old links.new result }
 {
-    check_joined(memory, links, units, slop, scheme)?;
+    check_pair(memory, links, units[0], units[1])?;
+    check_plan(units[0] + units[1], slop, scheme)?;
     let bits = Bitmap::make(units[0], memory);
     let chain = Chain::make(units[1], links);
     let pair = Joined::make(bits, chain);
     let (ended, _) = run_under(pair, slop, scheme, script, answers);
     Ok(ended)
-}
-
-// Whether two pairs make a pair.
-fn check_pairs(units: [usize; 4]) -> Result<(), AllocatorFault>
-    requires { (slice_index units 0 + slice_index units 1 ≤ 4096) × (slice_index units 2 + slice_index units 3 ≤ 4096) }
-    ensures { PoolChecked (slice_index units 0 + slice_index units 1 + (slice_index units 2 + slice_index units 3) ≤ 4096) result }
-{
-    if units[0] + units[1] + (units[2] + units[3]) > 4096 {
-        return Err(AllocatorFault::BadSize);
-    }
-    Ok(())
-}
-
-// Whether a ledger can be made over two pairs joined, each of a bitmap and a chain.
-fn check_nested(
-    first_memory: &[u8],
-    first_links: &[u16],
-    second_memory: &[u8],
-    second_links: &[u16],
-    units: [usize; 4],
-    slop: u16,
-    scheme: Scheme,
-) -> Result<(), SetupFault>
-    ensures { SetupChecked (NestedRoom first_memory.now first_links.now second_memory.now second_links.now (slice_index units 0) (slice_index units 1) (slice_index units 2) (slice_index units 3)) (slice_index units 0 + slice_index units 1 + (slice_index units 2 + slice_index units 3)) slop scheme result }
-{
-    check_pair(first_memory, first_links, units[0], units[1])?;
-    check_pair(second_memory, second_links, units[2], units[3])?;
-    check_pairs(units)?;
-    check_plan(units[0] + units[1] + (units[2] + units[3]), slop, scheme)
 }
 
 /// Runs a script on a new ledger over a pair of pairs: a bitmap of `units[0]` units, a chain of `units[1]`, a bitmap of `units[2]` and a
@@ -221,15 +177,10 @@ pub fn run_on_nested(
     ensures firsts { Unwritten first_memory.old first_memory.new result × Unwritten first_links.old first_links.new result }
     ensures seconds { Unwritten second_memory.old second_memory.new result × Unwritten second_links.old second_links.new result }
 {
-    check_nested(
-        first_memory,
-        first_links,
-        second_memory,
-        second_links,
-        units,
-        slop,
-        scheme,
-    )?;
+    check_pair(first_memory, first_links, units[0], units[1])?;
+    check_pair(second_memory, second_links, units[2], units[3])?;
+    check_few(units[0] + units[1], units[2] + units[3])?;
+    check_plan(units[0] + units[1] + (units[2] + units[3]), slop, scheme)?;
     let first_bits = Bitmap::make(units[0], first_memory);
     let first_chain = Chain::make(units[1], first_links);
     let second_bits = Bitmap::make(units[2], second_memory);

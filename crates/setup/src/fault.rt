@@ -32,6 +32,7 @@ impl SetupFault {
     }
 }
 
+// These three are by hand and not derived, since clauses name the fault that `?` makes.
 impl From<AllocatorFault> for SetupFault {
     ghost from_gives = { λ fault lifted. lifted ≡ of_pool fault };
 

@@ -3,17 +3,17 @@ use Rattle.setup.proofs.calls.run_on_chain.Goals as goal
 
 pub run_under-requires : goal.run_under-requires
 run_under-requires c =
-    let fit = c.in_ok-check_chain.ensures in
-    record { checked = runs.checks c.args.slop c.args.units _ c.make-chain.ensures.units fit.1; fits = fit.2 }
+    let plan = c.in_ok-check_plan.ensures in
+    record { checked = runs.checks c.args.slop c.args.units _ c.make-chain.ensures.units plan.0; fits = plan.1 }
 
 pub returns : goal.returns
 returns c =
-    let fit = c.in_ok-check_chain.ensures in
+    let plan = c.in_ok-check_plan.ensures in
     record {
       ran = (
-        fit.0,
-        fit.1,
-        fit.2,
+        c.in_ok-check.ensures,
+        plan.0,
+        plan.1,
         runs.ran_over c.args.units c.args.slop c.args.scheme c.args.script.now c.args.answers.now c.run_under.new.answers _ _ c.run_under.result.0
             c.make-chain.ensures.units c.run_under.ensures.ran,
       );
