@@ -7,7 +7,7 @@ use super::Tally;
 use super::fault::LedgerFault;
 use super::making::empty;
 
-// A folder and a volume are made by two orders of the tree: one function of both would have to tell the kinds apart again.
+// Each order calls its own of the tree, and that is nearly all: one function for a folder and a volume, or for a quota and a reservation, would have to tell them apart again.
 impl Tally {
     /// A new folder in `parent`; its number.
     pub fn folder(&mut self, parent: u8, name: [u8; 8]) -> Result<u16, LedgerFault>

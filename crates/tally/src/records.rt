@@ -72,6 +72,7 @@ fn cut(contents: &mut Contents, records: u8) -> u16
     units
 }
 
+// A transaction and a record's number come as two fields of an order: a struct of both would be made at each call only to be read here.
 impl Tally {
     // There is such a record.
     fn check_record(&self, t: u8, volume: u8, number: u8) -> Result<(), LedgerFault>
