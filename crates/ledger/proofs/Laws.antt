@@ -22,7 +22,7 @@ use Rattle.rules.specs.Standing.{entry, Standing}
 use Rattle.rules.proofs.Journals.{fair-fresh, fair-step}
 use Rattle.rules.proofs.Standings.{standing-fresh, standing-next}
 use Rattle.marks.specs.declared.marks.Marks.{Marks}
-use Rattle.marks.specs.Sound.{pool_of as pool_in, holders_of as holders_in}
+use Rattle.marks.specs.Sound.{pool_of as pool_in, holders_of as holders_in, size_of}
 use Rattle.tally.specs.declared.Tally.{Tally}
 use Rattle.tally.specs.Parts.{book_of as book_in, figures_of, Left, Did as TallyDid, Fresh}
 use Rattle.tally.proofs.Sounds.{shaped}
@@ -59,7 +59,7 @@ module _ {A P : Type 0} {gA : AllocatorMembers A} {gP : PolicyMembers P} where
   pub worst_is : (l : Ledger A P gA gP) → l.tally.worst ≡ gP.worst l.policy
   worst_is l = ∥∥₁_elim l.sound (ℕ_set _ _) (λ s. s.worst_is)
 
-  pub size_is : (l : Ledger A P gA gP) → l.tally.size ≡ l.marks.table.size
+  pub size_is : (l : Ledger A P gA gP) → l.tally.size ≡ size_of l.marks
   size_is l = ∥∥₁_elim l.sound (ℕ_set _ _) (λ s. s.size_is)
 
   pub sane : (l : Ledger A P gA gP) → Sane (figures l)
@@ -79,7 +79,7 @@ module _ {A P : Type 0} {gA : AllocatorMembers A} {gP : PolicyMembers P} where
       }
 
   module _ (l : Ledger A P gA gP) (tally : Tally) (marks : Marks A gA) (policy : P) (m : Meaning) (a : Answer) (did : DidTo l tally marks policy m a) where
-    pub figured : figures_in gP tally policy ≡ figures l
+    figured : figures_in gP tally policy ≡ figures l
     figured =
         let mk : ℕ → ℕ → P → Figures = λ n k p. record { size = n; slop = k; cost = gP.cost p; worst = gP.worst p } in
         ap (λ (n : ℕ). mk n tally.slop policy) did.same.size

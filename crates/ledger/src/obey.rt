@@ -15,7 +15,7 @@ use orders::order::{Name, Order};
 use pool::allocator::Allocator;
 use tally::fault::LedgerFault;
 
-// The eight bytes of a name.
+// The bytes of a name; of this call's result a proof knows that they are eight.
 fn bytes_of(name: Name<'_>) -> [u8; 8]
     ensures { result ≡ name.entry.bytes.now }
 {

@@ -5,13 +5,6 @@ use Rattle.ledger.proofs.Outs.{checked}
 use Rattle.ledger.proofs.Laws as laws
 use Rattle.ledger.proofs.Ledger.make.Goals as goal
 
-pub make-requires : goal.make-requires
-make-requires g c =
-    let b = checked c.args.slop (g.A.Allocator.units c.args.pool) c.requires in
-    let s = g.A.Allocator.sized c.args.pool in
-    let w = g.P.CostPolicy.bounded c.args.policy in
-    (omega arith, omega arith, omega arith, omega arith)
-
 pub make-requires-2 : goal.make-requires-2
 make-requires-2 g c = (checked c.args.slop (g.A.Allocator.units c.args.pool) c.requires).all_in
 

@@ -34,11 +34,3 @@ invariant_of-self g c =
           c.wrote.new.self c.defer.new.self c.take.new.self (omega arith, omega arith, omega arith) c.wrote.ensures.same c.wrote.ensures.booked
           e.holders e.kept e.sized k.took.0 k.sized k.lent);
     }
-
-pub returns : goal.returns
-returns g c =
-    let e = c.defer.ensures in
-    let k = c.in-Ok-take.ensures in
-    moves.writing c.args.self.now c.args.t c.args.number c.args.size c.args.volume c.in-Ok.cost c.requires c.in-Ok.ensures.1
-    c.wrote.new.self c.defer.new.self c.take.new.self (omega arith, omega arith, omega arith) c.wrote.ensures.same c.wrote.ensures.booked
-    e.holders e.kept e.sized k.took.0 k.sized k.lent

@@ -26,14 +26,3 @@ loop-number-preserved g c =
       e.sized ∙ inv.2,
       omega arith,
     )
-
-pub returns : goal.returns
-returns g c =
-    let inv = c.loop-number.invariant in
-    let bound = inv.3 in
-    let all : c.loop-number.number - c.args.start ≡ c.args.end - c.args.start = omega arith in
-    record {
-      holders = inv.0 ∙ ap (λ (k : ℕ). defer_from c.args.volume c.args.start k (holders_of c.args.marks.now)) all;
-      kept = inv.1;
-      sized = inv.2;
-    }
