@@ -28,7 +28,7 @@ use Rattle.tally.specs.Parts.{book_of as book_in, figures_of, Left, Did as Tally
 use Rattle.tally.proofs.Sounds.{shaped}
 use Rattle.ledger.specs.declared.Ledger.{Ledger}
 use Rattle.ledger.specs.Joined.{figures_in, StandsIn, SoundIn}
-use Rattle.ledger.specs.Parts.{book_of, holders_of, pool_of, units_of, figures, Stands, Untouched, PoolKept, DidTo}
+use Rattle.ledger.specs.Parts.{book_of, holders_of, pool_of, units_of, figures, Stands, Sound, Untouched, PoolKept, DidTo}
 use Rattle.ledger.proofs.Once.{accounted_once, summed_once}
 
 marked_by : (b : Book) (m : Meaning) (a : Answer) (us : List Bool) (hs : List Holder) → mark b m us us hs ≡ hs → hs ≡ holders_after b m a us us hs
@@ -77,6 +77,10 @@ module _ {A P : Type 0} {gA : AllocatorMembers A} {gP : PolicyMembers P} where
         accounted = ∥∥₁_elim l.sound (accounted_once (figures l) (book_of l) (holders_of l) (units_of l)) (λ s. s.fair.accounted);
         summed = ∥∥₁_elim l.sound (summed_once (book_of l) (holders_of l) (units_of l)) (λ s. s.fair.summed);
       }
+
+  -- all but the journal is in the ledger's type
+  pub sound_with : (l : Ledger A P gA gP) (j : List Entry) → Stands (figures l) l j → Sound l
+  sound_with l j s = record { worst_is = worst_is l; size_is = size_is l; sane = sane l; fair = fair l; journal = j; stands = s }
 
   module _ (l : Ledger A P gA gP) (tally : Tally) (marks : Marks A gA) (policy : P) (m : Meaning) (a : Answer) (did : DidTo l tally marks policy m a) where
     figured : figures_in gP tally policy ≡ figures l

@@ -1,5 +1,6 @@
 // Making a ledger, and taking it apart again.
 ghost use Rattle.std.specs.Prelude.{◌≡◌, ℕ, Bool, List, [], Ok};
+ghost use Rattle.rules.specs.Journal.{Entry};
 ghost use Rattle.ledger.specs.Makes.{any_out, check_answer, Made};
 ghost use Rattle.ledger.specs.Parts.{pool_of, figures, Sound, Stands};
 
@@ -46,9 +47,10 @@ impl<A: Allocator, P: CostPolicy> Ledger<A, P> {
         }
     }
 
-    /// Some journal stands behind the ledger.
+    /// Some journal stands behind the ledger, and with each that stands it is sound.
     pub fn sound(&self)
-        ensures { ∥ Sound self.now ∥₁ }
+        ensures some { ∥ Sound self.now ∥₁ }
+        ensures each { (j : List Entry) → Stands (figures self.now) self.now j → Sound self.now }
     {}
 
     /// Gives the allocator and the policy back.
