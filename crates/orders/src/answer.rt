@@ -76,6 +76,6 @@ pub enum Answer {
     /// The figures that were asked for.
     Told(Figures),
     /// The run stopped: its number, 0 at the script's end, and the place.
-    // Numbers, since these are the answer's bytes: the runner, which stops, has an enum.
+    // Numbers, since these are the answer's bytes: the runner, which stops, has a Result of a fault.
     Stopped { number: u8, place: u16 },
 }

@@ -1,7 +1,7 @@
 // Answers written into lent memory.
 ghost use Rattle.std.specs.Prelude.{◌≡◌, ◌+◌, ◌≤◌, ◌++◌, length};
-ghost use Rattle.orders.specs.Layout.{answer_bytes, laid, two, Written};
-ghost use Rattle.orders.specs.declared.answer.Answer.TheVariants.{Done, Refused, Told, Stopped};
+ghost use Rattle.orders.specs.Layout.{answer_bytes, two, Written};
+ghost use Rattle.orders.specs.declared.answer.Answer.TheVariants.{Refused, Told};
 
 use super::answer::{Answer, Figures, Refusal};
 
@@ -11,49 +11,7 @@ pub struct NoRoom {
     pub needed: usize,
 }
 
-// Writes the bytes from a place on; the others keep their contents.
-fn lay(out: &mut [u8], at: usize, bytes: &[u8])
-    requires { at + length bytes.now ≤ length out.old }
-    ensures { out.new ≡ laid out.old at bytes.now }
-{
-    out[at..at + bytes.len()].copy_from_slice(bytes);
-}
-
-fn lay_done(out: &mut [u8], at: usize, value: u16)
-    requires { at + 3 ≤ length out.old }
-    ensures { out.new ≡ laid out.old at (answer_bytes (Done value)) }
-{
-    let [high, low] = value.to_be_bytes();
-    lay(out, at, &[0x80, high, low]);
-}
-
-fn lay_refused(out: &mut [u8], at: usize, refusal: Refusal)
-    requires { at + 6 ≤ length out.old }
-    ensures { out.new ≡ laid out.old at (answer_bytes (Refused refusal)) }
-{
-    let [high, low] = refusal.amount.to_be_bytes();
-    lay(
-        out,
-        at,
-        &[
-            0x81,
-            refusal.number,
-            u8::from(refusal.layer),
-            refusal.item,
-            high,
-            low,
-        ],
-    );
-}
-
-fn lay_stopped(out: &mut [u8], at: usize, number: u8, place: u16)
-    requires { at + 4 ≤ length out.old }
-    ensures { out.new ≡ laid out.old at (answer_bytes (Stopped number place)) }
-{
-    let [high, low] = place.to_be_bytes();
-    lay(out, at, &[0x83, number, high, low]);
-}
-
+// The four counts of a dataset, two bytes each.
 fn counts(figures: Figures) -> [u8; 8]
     ensures { result ≡ two figures.charge ++ (two figures.record_units ++ (two figures.deferred_units ++ two figures.unspent_grants)) }
 {
@@ -73,13 +31,30 @@ fn counts(figures: Figures) -> [u8; 8]
     ]
 }
 
-fn lay_told(out: &mut [u8], at: usize, figures: Figures)
-    requires { at + length (answer_bytes (Told figures)) ≤ length out.old }
-    ensures { out.new ≡ laid out.old at (answer_bytes (Told figures)) }
+// Writes a refusal over all of the bytes.
+fn fill_refused(room: &mut [u8], refusal: Refusal)
+    requires { length room.old ≡ 6 }
+    ensures { room.new ≡ answer_bytes (Refused refusal) }
 {
-    lay(out, at, &[0x82]);
-    lay(out, at + 1, &figures.name);
-    lay(out, at + 9, &counts(figures));
+    let [high, low] = refusal.amount.to_be_bytes();
+    room.copy_from_slice(&[
+        0x81,
+        refusal.number,
+        u8::from(refusal.layer),
+        refusal.item,
+        high,
+        low,
+    ]);
+}
+
+// Writes the figures of a dataset over all of the bytes.
+fn fill_told(room: &mut [u8], figures: Figures)
+    requires { length room.old ≡ length (answer_bytes (Told figures)) }
+    ensures { room.new ≡ answer_bytes (Told figures) }
+{
+    room[0] = 0x82;
+    room[1..9].copy_from_slice(&figures.name);
+    room[9..].copy_from_slice(&counts(figures));
 }
 
 impl Answer {
@@ -95,16 +70,22 @@ impl Answer {
         }
     }
 
-    // Writes the answer where there is room for it.
-    fn lay(&self, out: &mut [u8], at: usize)
-        requires { at + length (answer_bytes self.now) ≤ length out.old }
-        ensures { out.new ≡ laid out.old at (answer_bytes self.now) }
+    // Writes the answer over all of the bytes.
+    fn fill(&self, room: &mut [u8])
+        requires { length room.old ≡ length (answer_bytes self.now) }
+        ensures { room.new ≡ answer_bytes self.now }
     {
         match *self {
-            Answer::Done { value } => lay_done(out, at, value),
-            Answer::Refused(refusal) => lay_refused(out, at, refusal),
-            Answer::Told(figures) => lay_told(out, at, figures),
-            Answer::Stopped { number, place } => lay_stopped(out, at, number, place),
+            Answer::Done { value } => {
+                let [high, low] = value.to_be_bytes();
+                room.copy_from_slice(&[0x80, high, low]);
+            }
+            Answer::Refused(refusal) => fill_refused(room, refusal),
+            Answer::Told(figures) => fill_told(room, figures),
+            Answer::Stopped { number, place } => {
+                let [high, low] = place.to_be_bytes();
+                room.copy_from_slice(&[0x83, number, high, low]);
+            }
         }
     }
 
@@ -117,7 +98,7 @@ impl Answer {
         if at > out.len() || out.len() - at < needed {
             return Err(NoRoom { needed });
         }
-        self.lay(out, at);
+        self.fill(&mut out[at..at + needed]);
         Ok(needed)
     }
 }

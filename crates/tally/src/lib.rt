@@ -23,7 +23,7 @@ pub struct Tally {
     worst: u16,
     // places, quotas, reservations, and the charges that follow
     tree: Tree,
-    // what each dataset holds; what stands past the datasets is not used. No rows of the tree's table: the tree knows nothing of records, and the rules fix the length of both
+    // what each dataset holds; what stands past the datasets is not used. Not a part of the tree's nodes: the tree knows nothing of records, and a fixed array needs no heap
     contents: [Contents; 64],
     transactions: [Transaction; 32],
     ghost sized: { Sized size slop worst },
