@@ -1,5 +1,5 @@
 // Runs over each kind of pool. The figures are checked first, in the order of the refusals' numbers.
-ghost use Rattle.std.specs.Prelude.{◌≡◌, ◌+◌, ◌<◌, ◌≤◌, length, Ok, slice_index};
+ghost use Rattle.std.specs.Prelude.{◌≡◌, ◌+◌, ◌≤◌, false, length, replicate, Ok, slice_index};
 ghost use Rattle.ledger.specs.Makes.{check_answer};
 ghost use Rattle.ledger.specs.Serves.{planned};
 ghost use Rattle.pool.specs.Links.{Space};
@@ -137,6 +137,21 @@ fn check_pair(
     check_few(first, second)
 }
 
+// A bitmap and a chain as one, with every unit in.
+fn make_pair<'a>(
+    memory: &'a mut [u8],
+    links: &'a mut [u16],
+    first: usize,
+    second: usize,
+) -> Joined<Bitmap<'a>, Chain<'a>>
+    requires { PairRoom memory.old links.old first second }
+    ensures { ⟦<Joined<Bitmap<'a>, Chain<'a>> as Allocator>⟧.units result ≡ replicate (first + second) false }
+{
+    let bits = Bitmap::make(first, memory);
+    let chain = Chain::make(second, links);
+    Joined::make(bits, chain)
+}
+
 /// Runs a script on a new ledger over a bitmap of `units[0]` units joined with a chain of `units[1]`. A refusal writes nothing.
 pub fn run_on_joined(
     memory: &mut [u8],
@@ -153,9 +168,7 @@ pub fn run_on_joined(
 {
     check_pair(memory, links, units[0], units[1])?;
     check_plan(units[0] + units[1], slop, scheme)?;
-    let bits = Bitmap::make(units[0], memory);
-    let chain = Chain::make(units[1], links);
-    let pair = Joined::make(bits, chain);
+    let pair = make_pair(memory, links, units[0], units[1]);
     let (ended, _) = run_under(pair, slop, scheme, script, answers);
     Ok(ended)
 }
@@ -181,12 +194,8 @@ pub fn run_on_nested(
     check_pair(second_memory, second_links, units[2], units[3])?;
     check_few(units[0] + units[1], units[2] + units[3])?;
     check_plan(units[0] + units[1] + (units[2] + units[3]), slop, scheme)?;
-    let first_bits = Bitmap::make(units[0], first_memory);
-    let first_chain = Chain::make(units[1], first_links);
-    let second_bits = Bitmap::make(units[2], second_memory);
-    let second_chain = Chain::make(units[3], second_links);
-    let first = Joined::make(first_bits, first_chain);
-    let second = Joined::make(second_bits, second_chain);
+    let first = make_pair(first_memory, first_links, units[0], units[1]);
+    let second = make_pair(second_memory, second_links, units[2], units[3]);
     let pair = Joined::make(first, second);
     let (ended, _) = run_under(pair, slop, scheme, script, answers);
     Ok(ended)
