@@ -10,7 +10,6 @@ use Rattle.pool.specs.Pairs.{Few}
 use Rattle.std.specs.Coded.{le_prop}
 use mathlib.Core.HLevel.{Σ_prop_path}
 use mathlib.Core.Path.{Σ_path}
-use Rattle.pool.specs.Faults.{ground}
 use Rattle.pool.specs.Units.{Took, Gave, Kept}
 
 pub took-first : (us vs ws : List Bool) (u : ℕ) → Took us vs (Ok u) → Took (us ++ ws) (vs ++ ws) (Ok u)
@@ -36,21 +35,20 @@ took_neither us vs ws xs f h s t = (
 )
 
 -- the part that has a unit
-pub at_first : (us ws : List Bool) (n u v : ℕ) (b : Bool) → n ≡ length us → u < n → v ≡ u → b ≡ get_or us v false → b ≡ get_or (us ++ ws) u false
-at_first us ws n u v b e h q o = o ∙ ap (λ (k : ℕ). get_or us k false) q ∙ sym (get_or_append_left us ws false u (omega arith))
+pub at_first : (us ws : List Bool) (n u : ℕ) (b : Bool) → n ≡ length us → u < n → b ≡ get_or us u false → b ≡ get_or (us ++ ws) u false
+at_first us ws n u b e h o = o ∙ sym (get_or_append_left us ws false u (omega arith))
 
 pub at_second : (us ws : List Bool) (n u v : ℕ) (b : Bool) → n ≡ length us → n + v ≡ u → b ≡ get_or ws v false → b ≡ get_or (us ++ ws) u false
 at_second us ws n u v b e q o =
     let k : u - n ≡ v = omega arith in
     o ∙ sym (get_or-append_right us ws n u false (sym e) (omega arith) ∙ ap (λ (j : ℕ). get_or ws j false) k)
 
-pub gave_first : (us vs ws : List Bool) (n u v : ℕ) (r : Result (Unit {0}) AllocatorFault) → n ≡ length us → u < n → v ≡ u → Gave us vs v r → Gave (us ++ ws) (vs ++ ws) u r
-gave_first us vs ws n u v (Ok _) e h q t =
+pub gave_first : (us vs ws : List Bool) (n u : ℕ) (r : Result (Unit {0}) AllocatorFault) → n ≡ length us → u < n → Gave us vs u r → Gave (us ++ ws) (vs ++ ws) u r
+gave_first us vs ws n u (Ok _) e h t =
     let b : u < length us = omega arith in
-    (get_or_append_left us ws false u b ∙ ap (λ (k : ℕ). get_or us k false) (sym q) ∙ t.0, ap (λ (l : List Bool). l ++ ws) (t.1 ∙ ap (λ (k : ℕ). set us k false) q) ∙ sym (set-append_left us ws u false b))
-gave_first us vs ws n u v (Err f) e h q t =
-    let b : u < length us = omega arith in
-    (t.0 ∙ ap (λ (k : ℕ). ground (NotOut k)) q, get_or_append_left us ws false u b ∙ ap (λ (k : ℕ). get_or us k false) (sym q) ∙ t.1, ap (λ (l : List Bool). l ++ ws) t.2)
+    (get_or_append_left us ws false u b ∙ t.0, ap (λ (l : List Bool). l ++ ws) t.1 ∙ sym (set-append_left us ws u false b))
+gave_first us vs ws n u (Err f) e h t =
+    (t.0, get_or_append_left us ws false u (omega arith) ∙ t.1, ap (λ (l : List Bool). l ++ ws) t.2)
 
 pub gave_second : (us ws xs : List Bool) (n u v : ℕ) (r s : Result (Unit {0}) AllocatorFault) → n ≡ length us → n + v ≡ u → Gave ws xs v r → MatchResult r (λ _. s ≡ Ok tt) (λ _. s ≡ Err (NotOut u)) → Gave (us ++ ws) (us ++ xs) u s
 gave_second us ws xs n u v (Ok _) s e q t m =

@@ -3,6 +3,9 @@ ghost use Rattle.std.specs.Prelude.{◌≡◌, ℕ, ◌≤◌, Bool, false, List
 ghost use Rattle.pool.specs.Faults.{ground};
 ghost use Rattle.pool.specs.Units.{Took, Gave, Kept};
 
+/// As many units as an allocator can have.
+pub const MOST_UNITS: usize = 4096;
+
 /// Why an allocator refuses.
 #[derive(Clone, Copy, PartialEq, Eq, Debug)]
 pub enum AllocatorFault {

@@ -4,7 +4,7 @@ ghost use Rattle.pool.specs.Marks.{bit_of, bit_at, marks, turned, low_cleared, c
 ghost use Rattle.pool.specs.Once.{mapped_once};
 ghost use Rattle.pool.specs.Units.{Took, Gave, Checked, Kept};
 
-use super::allocator::{Allocator, AllocatorFault};
+use super::allocator::{Allocator, AllocatorFault, MOST_UNITS};
 
 // whether bit `i` of the memory is set
 fn bit(memory: &[u8], i: usize) -> bool
@@ -70,7 +70,7 @@ impl<'a> Bitmap<'a> {
     pub fn check(size: usize, memory: &[u8]) -> Result<(), AllocatorFault>
         ensures { Checked (Room memory.now size) result }
     {
-        if size == 0 || size > 4096 || size.div_ceil(8) > memory.len() {
+        if size == 0 || size > MOST_UNITS || size.div_ceil(8) > memory.len() {
             return Err(AllocatorFault::BadSize);
         }
         Ok(())

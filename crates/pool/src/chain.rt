@@ -4,7 +4,7 @@ ghost use Rattle.pool.specs.Links.{taken, chained, beside_links, Space, Linked, 
 ghost use Rattle.pool.specs.Once.{linked_once};
 ghost use Rattle.pool.specs.Units.{Took, Gave, Checked, Kept};
 
-use super::allocator::{Allocator, AllocatorFault};
+use super::allocator::{Allocator, AllocatorFault, MOST_UNITS};
 
 // the entry of a unit that is out: the lent memory's format has it so
 const OUT: u16 = u16::MAX;
@@ -34,7 +34,7 @@ impl<'a> Chain<'a> {
     pub fn check(size: usize, links: &[u16]) -> Result<(), AllocatorFault>
         ensures { Checked (Space links.now size) result }
     {
-        if size == 0 || size > 4096 || size > links.len() {
+        if size == 0 || size > MOST_UNITS || size > links.len() {
             return Err(AllocatorFault::BadSize);
         }
         Ok(())

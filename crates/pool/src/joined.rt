@@ -1,27 +1,16 @@
 // An allocator made of any two: the second's units follow the first's.
-ghost use Rattle.std.specs.Prelude.{◌≡◌, ◌+◌, ◌≤◌, ◌++◌, length};
+ghost use Rattle.std.specs.Prelude.{◌≡◌, ◌+◌, ◌<◌, ◌≤◌, ◌++◌, length, MatchOption};
 ghost use Rattle.std.specs.Coded.{×_prop};
-ghost use Rattle.pool.specs.Pairs.{Few, Placed, joined_sized};
+ghost use Rattle.pool.specs.Pairs.{Few, joined_sized};
 ghost use Rattle.pool.specs.Units.{Checked};
 
-use super::allocator::{Allocator, AllocatorFault};
+use super::allocator::{Allocator, AllocatorFault, MOST_UNITS};
 
-// the part that has a unit, and the unit's number there
-#[derive(Clone, Copy)]
-enum Place {
-    First(u16),
-    Second(u16),
-}
-
-// where the unit is, with so many units in the first part
-fn locate(border: u16, unit: u16) -> Place
-    ensures { Placed border unit result }
+// the unit's number in the second part, where it is none of the first part's so many units
+fn past(border: u16, unit: u16) -> Option<u16>
+    ensures { MatchOption result (unit < border) (λ own. border + own ≡ unit) }
 {
-    if unit < border {
-        Place::First(unit)
-    } else {
-        Place::Second(unit - border)
-    }
+    unit.checked_sub(border)
 }
 
 /// Two allocators as one.
@@ -37,7 +26,7 @@ impl<A: Allocator, B: Allocator> Joined<A, B> {
     pub fn check(first: &A, second: &B) -> Result<(), AllocatorFault>
         ensures { Checked (Few (A.Allocator.units first.now) (B.Allocator.units second.now)) result }
     {
-        if first.size() + second.size() > 4096 {
+        if usize::from(first.size() + second.size()) > MOST_UNITS {
             return Err(AllocatorFault::BadSize);
         }
         Ok(())
@@ -73,9 +62,9 @@ impl<A: Allocator, B: Allocator> Allocator for Joined<A, B> {
     }
 
     fn is_out(&self, unit: u16) -> bool {
-        match locate(self.first.size(), unit) {
-            Place::First(own) => self.first.is_out(own),
-            Place::Second(own) => self.second.is_out(own),
+        match past(self.first.size(), unit) {
+            None => self.first.is_out(unit),
+            Some(own) => self.second.is_out(own),
         }
     }
 
@@ -89,9 +78,9 @@ impl<A: Allocator, B: Allocator> Allocator for Joined<A, B> {
     }
 
     fn give(&mut self, unit: u16) -> Result<(), AllocatorFault> {
-        match locate(self.first.size(), unit) {
-            Place::First(own) => self.first.give(own),
-            Place::Second(own) => self
+        match past(self.first.size(), unit) {
+            None => self.first.give(unit),
+            Some(own) => self
                 .second
                 .give(own)
                 .map_err(|_| AllocatorFault::NotOut { unit }),
