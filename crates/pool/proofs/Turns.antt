@@ -1,12 +1,13 @@
 -- The bits of lent bytes: one is turned over, or the first of them are cleared.
-use Rattle.std.proofs.Common.{◌≡◌, ℕ, zero, suc, ◌+◌, ◌-◌, ◌*◌, ◌/◌, ◌%◌, ◌^◌, ◌<◌, ◌≤◌, min, Bool, true, false, not, eqb, List, [], ◌∷◌, ◌++◌, length, get_or, take, drop, set, replicate, Ok, sym, refl, ap, ◌∙◌, subst, inl, inr, mul_assoc, arith}
+use Rattle.std.proofs.Common.{◌≡◌, ℕ, zero, suc, ◌+◌, ◌-◌, ◌*◌, ◌/◌, ◌%◌, ◌^◌, ◌<◌, ◌≤◌, min, Bool, true, false, not, eqb, ltb, List, [], ◌∷◌, ◌++◌, length, get_or, take, drop, set, replicate, Ok, Option, MatchOption, sym, refl, ap, ◌∙◌, subst, inl, inr, mul_assoc, arith}
 use native.Mathlib.Nat.{div-eq_of_lt}
 use lib.Bits.{bit_xor, xor_zero_r}
 use Rattle.std.proofs.lemmas.Nat.{xor_shr, xor_mod, shl-shr, shr-shr, pow-add, pow_below}
 use Rattle.std.proofs.lemmas.List.{get_or-set_same, get_or-set_other, get_or_past, length-set, ext_get_or, length-replicate, get_or-replicate, get_or-take, get_or-drop, length-take-le, length-drop, length-append, get_or_append_left, get_or-append_right}
 use Rattle.std.proofs.lemmas.List.FromFn.{length-map-range_with_len, get_or-map-range_with_len, fill_by_all}
-use Rattle.std.proofs.lemmas.Bool.{cases_eq, cases_lt, ne_eqb}
+use Rattle.std.proofs.lemmas.Bool.{cases_eq, cases_lt, ne_eqb, lt-ltb, le-ltb}
 use Rattle.std.proofs.lemmas.Nat.Bits.{bit_at-trailing_ones}
+use Rattle.std.specs.Bool.{then_some}
 use Rattle.std.specs.Int.{w8, trailing_ones}
 use Rattle.pool.proofs.Outs.{within}
 use Rattle.pool.specs.Marks.{bit_of, bit_at, marks, turned, low_cleared, cleared, beside_bits, Room, Mapped}
@@ -220,6 +221,15 @@ first_clear bs n h a b m t w e l x s f =
     let low = lowest_clear (get_or bs (a + m) 0) t (omega arith) s in
     let full : (k : ℕ) → h / 8 ≤ k → k < a + m → get_or bs k 0 ≡ 255 = λ k lo hi. part_full bs a b m (omega arith) f.2 k (omega arith) hi in
     (byte_bit bs (a + m) t (8 * (a + m) + t) low.0 refl ∙ low.1, lowest_before bs n h (a + m) t w full low.0 low.2)
+
+-- the lowest bit that is clear is a unit's, or every unit is out
+pub lowest_in : (bs : List ℕ) (n u : ℕ) (o : Option ℕ) → o ≡ then_some (ltb u n) u → (bit_at bs u ≡ false) × ((k : ℕ) → k < u → bit_at bs k ≡ true) → MatchOption o ((k : ℕ) → k < n → bit_at bs k ≡ true) (λ v. (v < n) × (bit_at bs v ≡ false) × ((k : ℕ) → k < v → bit_at bs k ≡ true))
+lowest_in bs n u o e f =
+    let P : Option ℕ → Type 0 = λ x. MatchOption x ((k : ℕ) → k < n → bit_at bs k ≡ true) (λ v. (v < n) × (bit_at bs v ≡ false) × ((k : ℕ) → k < v → bit_at bs k ≡ true)) in
+    subst P (sym e) (elim (cases_lt u n) [
+      | inl h ↦ subst P (ap (λ (b : Bool). then_some b u) (sym (lt-ltb u n h))) (h, f.0, f.1)
+      | inr h ↦ subst P (ap (λ (b : Bool). then_some b u) (sym (le-ltb u n h))) (λ k l. f.1 k (omega arith))
+    ])
 
 -- a byte with its lowest bits cleared
 low_clear : (x n j : ℕ) → j < min n 8 → bit_of (low_cleared x n) j ≡ false

@@ -31,13 +31,6 @@ fn first_not_full(bytes: &[u8]) -> Option<usize>
     bytes.iter().position(|byte| *byte != u8::MAX)
 }
 
-// the hint once the unit is in
-fn lower(hint: u16, unit: u16) -> u16
-    ensures { result ≡ min hint unit }
-{
-    hint.min(unit)
-}
-
 // the byte with its lowest `n` bits cleared
 fn low_cleared(byte: u8, n: usize) -> u8
     ensures { result ≡ low_cleared byte n }
@@ -102,7 +95,7 @@ impl<'a> Bitmap<'a> {
         let i = from + first_not_full(&self.memory[from..end])?;
         let byte = self.memory[i];
         let unit = 8 * i as u16 + byte.trailing_ones() as u16;
-        if unit < self.size { Some(unit) } else { None }
+        (unit < self.size).then_some(unit)
     }
 }
 
@@ -150,7 +143,7 @@ impl Allocator for Bitmap<'_> {
         if !self.is_out(unit) {
             return Err(AllocatorFault::NotOut { unit });
         }
-        self.hint = lower(self.hint, unit);
+        self.hint = self.hint.min(unit);
         turn(self.memory, usize::from(unit));
         Ok(())
     }
