@@ -27,10 +27,9 @@ pub fn take_exact<A: Allocator>(
     ensures lent { A.Allocator.lent pool.new ≡ A.Allocator.lent pool.old }
     ensures filled { Filled (A.Allocator.units pool.old) (A.Allocator.units pool.new) list.old list.new result }
 {
-    // By index: a refusal gives back the places before this one, which `iter_mut` would hold.
-    for i in 0..list.len() {
+    for (i, place) in list.iter_mut().enumerate() {
         match pool.take() {
-            Ok(unit) => list[i] = Some(unit),
+            Ok(unit) => *place = Some(unit),
             Err(fault) => {
                 give_back(pool, &mut list[..i]);
                 return Err(fault);
