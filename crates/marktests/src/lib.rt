@@ -62,6 +62,7 @@ mod tests {
         Ok(())
     }
 
+    // The two differ in the memory that they lend; a trait for it would be longer than they are.
     #[test]
     fn bitmap(rt: HostRuntime) -> Result<(), Fail> {
         let mut memory = [0xaau8; 512];

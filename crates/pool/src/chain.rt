@@ -23,7 +23,8 @@ fn link(links: &mut [u16], size: u16)
 #[derive(Drop)]
 pub struct Chain<'a> {
     size: u16,
-    // the unit that goes out next, or the size where every unit is out
+    // The unit that goes out next, or the size where every unit is out: the chain's end is its size, as the lent
+    // entries have it.
     head: u16,
     links: &'a mut [u16],
     ghost linked: { Linked links.now size head } by { linked_once links.now size head },

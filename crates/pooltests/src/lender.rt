@@ -10,6 +10,7 @@ use pool::batch::take_exact;
 use pool::bitmap::Bitmap;
 use pool::chain::Chain;
 
+// This and unlink_first are two: their contracts differ by the format of the memory, bits or entries.
 /// Takes one unit of a new bitmap, and lets the bitmap go: the first `size` bits are cleared, bit 0 is set, and the rest
 /// of the memory is as it was.
 pub fn mark_first(size: usize, memory: &mut [u8]) -> Result<u16, AllocatorFault>

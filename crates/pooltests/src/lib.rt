@@ -80,28 +80,26 @@ mod tests {
 
     #[test]
     fn bitmaps(rt: HostRuntime) -> Result<(), Fail> {
-        bitmap_round(&rt, 1)?;
-        bitmap_round(&rt, 7)?;
-        bitmap_round(&rt, 8)?;
-        bitmap_round(&rt, 9)?;
-        bitmap_round(&rt, 4096)
+        for size in [1, 7, 8, 9, 4096] {
+            bitmap_round(&rt, size)?;
+        }
+        Ok(())
     }
 
     #[test]
     fn chains(rt: HostRuntime) -> Result<(), Fail> {
-        chain_round(&rt, 1)?;
-        chain_round(&rt, 7)?;
-        chain_round(&rt, 8)?;
-        chain_round(&rt, 9)?;
-        chain_round(&rt, 4096)
+        for size in [1, 7, 8, 9, 4096] {
+            chain_round(&rt, size)?;
+        }
+        Ok(())
     }
 
     #[test]
     fn pairs(rt: HostRuntime) -> Result<(), Fail> {
-        pair_round(&rt, 1, 1)?;
-        pair_round(&rt, 8, 9)?;
-        pair_round(&rt, 4095, 1)?;
-        pair_round(&rt, 1, 4095)
+        for (first, second) in [(1, 1), (8, 9), (4095, 1), (1, 4095)] {
+            pair_round(&rt, first, second)?;
+        }
+        Ok(())
     }
 
     #[test]
@@ -138,11 +136,7 @@ mod tests {
         assert!(rt; size >= 3 && list.len() >= size);
         take_exact(pool, &mut list[0..3])?;
         for place in &list[0..3] {
-            let out = match *place {
-                Some(unit) => pool.is_out(unit),
-                None => false,
-            };
-            assert!(rt; out);
+            assert!(rt; place.is_some_and(|unit| pool.is_out(unit)));
         }
         assert_eq!(rt;
             take_exact(pool, &mut list[0..size]),
