@@ -100,14 +100,11 @@ deferring_more v r k u t₀ t t' w s es =
 undeferred : (v r : ℕ) (h : Holder) → same (Record v r) h ≡ false → defer v r h ≡ h
 undeferred v r h e = cond-false (same (Record v r) h) (Deferred v) h e
 
-pub deferring_end : (v r w s k : ℕ) (t₀ t t' : Table) → w ≡ v → s ≡ r → Deferring w s k t₀ t → Shifted w s t t' None →
+pub deferring_end : (v r k : ℕ) (t₀ t t' : Table) → Deferring v r k t₀ t → Shifted v r t t' None →
     (rows_of t' ≡ map (defer v r) (rows_of t₀)) × (k ≡ count (Record v r) (rows_of t₀)) × (t'.size ≡ t₀.size)
-deferring_end v r w s k t₀ t t' ev er d end =
-    let m = moved_none (defer w s) (same (Record w s)) Nobody (undeferred w s) (rows_of t) end.0 in
-    let P : ℕ → Type 0 = λ x. (rows_of t' ≡ map (defer x s) (rows_of t₀)) × (k ≡ count (Record x s) (rows_of t₀)) in
-    let Q : ℕ → Type 0 = λ x. (rows_of t' ≡ map (defer v x) (rows_of t₀)) × (k ≡ count (Record v x) (rows_of t₀)) in
-    let it = subst Q er (subst P ev (ap rows_of end.1 ∙ sym m.0 ∙ d.rows, omega (arith, d.many, m.1))) in
-    (it.0, it.1, ap (λ (x : Table). x.size) end.1 ∙ d.sized)
+deferring_end v r k t₀ t t' d end =
+    let m = moved_none (defer v r) (same (Record v r)) Nobody (undeferred v r) (rows_of t) end.0 in
+    (ap rows_of end.1 ∙ sym m.0 ∙ d.rows, omega (arith, d.many, m.1), ap (λ (x : Table). x.size) end.1 ∙ d.sized)
 
 -- no unit is one of a record that the table has no place for
 unnamed : (v r : ℕ) (h : Holder) → Named h → (v < 64 → r < 64 → ⊥) → same (Record v r) h ≡ false

@@ -111,7 +111,10 @@ impl<A: Allocator> Marks<A> {
         ensures many { result ≡ count (Record volume number) (holders_of self.old) }
         ensures sized { size_of self.new ≡ size_of self.old }
     {
-        self.table.defer(volume, number)
+        let Some(place) = Place::find(volume, number) else {
+            return 0;
+        };
+        self.table.defer(place)
     }
 
     // gives one of the deferred units back

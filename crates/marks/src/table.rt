@@ -104,14 +104,11 @@ impl Table {
     }
 
     /// The units of a record become deferred ones of its volume. Answers how many.
-    pub fn defer(&mut self, volume: u8, number: u8) -> u16
-        ensures rows { rows_of self.new ≡ map (defer_of volume number) (rows_of self.old) }
-        ensures many { result ≡ count (Record volume number) (rows_of self.old) }
+    pub fn defer(&mut self, place: Place) -> u16
+        ensures rows { rows_of self.new ≡ map (defer_of place.volume place.number) (rows_of self.old) }
+        ensures many { result ≡ count (Record place.volume place.number) (rows_of self.old) }
         ensures sized { self.new.size ≡ self.old.size }
     {
-        let Some(place) = Place::find(volume, number) else {
-            return 0;
-        };
         let mut moved = 0;
         while let Some(_) = self.shift(place) {
             moved += 1;

@@ -5,7 +5,7 @@ use Rattle.marks.proofs.Tables.{Deferring}
 use Rattle.marks.proofs.table.Table.defer.Given as goal
 
 abbrev pub invariant-loop-moved : goal.invariant-loop-moved
-invariant-loop-moved l = Deferring l.place.volume l.place.number l.moved l.initial.self l.self
+invariant-loop-moved l = Deferring l.fn.place.volume l.fn.place.number l.moved l.initial.self l.self
 
 abbrev pub decreases-loop-moved : goal.decreases-loop-moved
-decreases-loop-moved l = count (Record l.place.volume l.place.number) (rows_of l.self)
+decreases-loop-moved l = count (Record l.fn.place.volume l.fn.place.number) (rows_of l.self)
