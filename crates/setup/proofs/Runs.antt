@@ -1,6 +1,6 @@
 -- What a run on a new ledger comes to.
-use Rattle.std.proofs.Common.{◌≡◌, ℕ, zero, suc, ◌+◌, ◌<◌, ◌≤◌, Bool, false, List, [], ◌++◌, length, get_or, replicate, Ok, sym, refl, ap, ◌∙◌, subst, arith}
-use Rattle.std.proofs.lemmas.List.{append-nil, length-replicate, replicate-append-replicate}
+use Rattle.std.proofs.Common.{◌≡◌, ℕ, ◌+◌, ◌<◌, ◌≤◌, Bool, false, List, [], ◌++◌, length, get_or, replicate, Ok, sym, ap, ◌∙◌, subst, arith}
+use Rattle.std.proofs.lemmas.List.{append-nil, get_or-replicate, length-replicate, replicate-append-replicate}
 use Rattle.std.proofs.lemmas.Bool.{cond-true, cond-false, lt-ltb}
 use Rattle.pool.specs.declared.allocator.Allocator.{Ghosts as AllocatorMembers}
 use Rattle.costs.specs.declared.policy.CostPolicy.{Ghosts as PolicyMembers}
@@ -22,11 +22,6 @@ use Rattle.setup.specs.declared.scheme.Scheme.{Scheme}
 use Rattle.setup.specs.declared.scheme.Scheme.TheVariants.{Copies, Parity}
 use Rattle.setup.specs.Schemes.{plan}
 use Rattle.setup.specs.Setups.{RunWith, Ran}
-
-get_or-replicate_false : (n k : ℕ) → get_or (replicate n false) k false ≡ false
-get_or-replicate_false zero k = refl
-get_or-replicate_false (suc n) zero = refl
-get_or-replicate_false (suc n) (suc k) = get_or-replicate_false n k
 
 module _ {A P : Type 0} {gA : AllocatorMembers A} {gP : PolicyMembers P} where
   pub run_with : (l₁ l : Ledger A P gA gP) (pool : A) (policy : P) (slop : ℕ) (s out after : List ℕ) (e : Ended) → Made pool policy slop l₁ → Stands (figures l₁) l₁ [] →
@@ -70,8 +65,8 @@ planned-run F G s out after us e same r = subst (λ (H : Figures). RunWith H s o
 -- a ledger can be made over a new allocator
 pub checks : (slop n : ℕ) (us : List Bool) → us ≡ replicate n false → slop < n → check_answer slop us ≡ Ok tt
 checks slop n us e below =
-    let none : any_out us ≡ false = none_out us (λ k h. ap (λ (x : List Bool). get_or x k false) e ∙ get_or-replicate_false n k) in
     let long : length us ≡ n = ap length e ∙ length-replicate n false in
+    let none : any_out us ≡ false = none_out us (λ k h. ap (λ (x : List Bool). get_or x k false) e ∙ get_or-replicate n k false false (omega arith)) in
     cond-true _ _ _ (lt-ltb slop (length us) (omega arith)) ∙ cond-false _ _ _ none
 
 -- the run over a new allocator of n units
@@ -83,7 +78,7 @@ ran_over n slop scheme s out after us vs e all_in r =
 
 -- two new allocators one after the other
 pub both_in : (us vs : List Bool) (m n : ℕ) → us ≡ replicate m false → vs ≡ replicate n false → us ++ vs ≡ replicate (m + n) false
-both_in us vs m n e f = ap (λ (x : List Bool). x ++ vs) e ∙ ap (λ (x : List Bool). replicate m false ++ x) f ∙ replicate-append-replicate m n false
+both_in us vs m n e f = rw (e, f) (replicate-append-replicate m n false)
 
 pub both_few : (us vs : List Bool) (m n : ℕ) → us ≡ replicate m false → vs ≡ replicate n false → m + n ≤ 4096 → length us + length vs ≤ 4096
 both_few us vs m n e f few =

@@ -2,22 +2,15 @@ use Rattle.std.proofs.Common.{◌+◌, get_or}
 use Rattle.setup.proofs.Runs as runs
 use Rattle.setup.proofs.calls.run_on_joined.Goals as goal
 
-pub run_under-requires : goal.run_under-requires
-run_under-requires c =
-    let plan = c.in_ok-check_plan.ensures in
-    record { checked = runs.checks c.args.slop (get_or c.args.units 0 0 + get_or c.args.units 1 0) _ c.make_pair-pair.ensures plan.0; fits = plan.1 }
+pub run_under-requires-clause-checked : goal.run_under-requires-clause-checked
+run_under-requires-clause-checked c = runs.checks c.args.slop (get_or c.args.units 0 0 + get_or c.args.units 1 0) _ c.make_pair-pair.ensures c.in_ok-check_plan.ensures.0
 
-pub returns : goal.returns
-returns c =
-    let plan = c.in_ok-check_plan.ensures in
-    record {
-      ran = (
-        c.in_ok-check_pair.ensures,
-        plan.0,
-        plan.1,
-        runs.ran_over (get_or c.args.units 0 0 + get_or c.args.units 1 0) c.args.slop c.args.scheme c.args.script.now c.args.answers.now c.run_under.new.answers _ _ c.run_under.result.0
-            c.make_pair-pair.ensures c.run_under.ensures.ran,
-      );
-      memory = tt;
-      links = tt;
-    }
+pub returns-clause-ran : goal.returns-clause-ran
+returns-clause-ran c =
+    let plan = c.in_ok-check_plan.ensures in (
+      c.in_ok-check_pair.ensures,
+      plan.0,
+      plan.1,
+      runs.ran_over (get_or c.args.units 0 0 + get_or c.args.units 1 0) c.args.slop c.args.scheme c.args.script.now c.args.answers.now c.run_under.new.answers _ _ c.run_under.result.0
+          c.make_pair-pair.ensures c.run_under.ensures.ran,
+    )
