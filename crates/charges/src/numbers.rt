@@ -60,5 +60,5 @@ pub fn reweighed(charge: u16, old: u16, new: u16) -> i32
 pub fn changed(charge: u16, change: i32) -> u32
     ensures { result ≡ with_change charge change }
 {
-    (i64::from(charge) + i64::from(change)).max(0) as u32
+    u32::from(charge).saturating_add_signed(change)
 }

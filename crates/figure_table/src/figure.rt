@@ -2,6 +2,7 @@
 use orders::answer::Refusal;
 
 /// The policy that a figure is of, with any numbers.
+// Beside the scheme of a setup: one enum for both is no plainer, since the words of this one are the table's text, and the costs know no text.
 #[derive(Clone, Copy, PartialEq, Eq, Debug)]
 pub enum Policy {
     Copies(u8),

@@ -99,7 +99,8 @@ pub enum Stop {
 pub(crate) fn stop_of(script: &[u8], fault: ReadFault) -> Stop {
     match fault {
         ReadFault::UnknownKind { place } => {
-            // The place is in the script, but a fault does not say so.
+            // The place is in the script, but a fault does not say so. A fault with the byte is no plainer: the reader's `ReadFault` and the definition
+            // `decode` would both change for one word of a message.
             let kind = script.get(place).copied().unwrap_or(0);
             Stop::UnknownKind { place, kind }
         }

@@ -15,6 +15,7 @@ pub struct Contents {
     /// The number of records, 1 to 64 for a volume.
     pub records: u8,
     /// The units of each record.
+    // 64 places whatever the number of records: a list of that length is no plainer, since this is plain data to be copied, and the rules' contents have 64.
     pub units: [u16; 64],
     /// The units that the records lost since the last turn.
     pub deferred: u16,

@@ -4,6 +4,7 @@ ghost use Rattle.tally.specs.Faults.{of_transactions, refusal_of};
 ghost use Rattle.tally.specs.declared.fault.LedgerFault.TheVariants.{InTree as in_tree};
 ghost use Rattle.rules.specs.Book.{state_number};
 
+use super::records::LARGEST;
 use orders::answer::{Layer, Refusal};
 use rules::state::Transaction;
 use tree::fault::TreeFault;
@@ -74,7 +75,7 @@ impl From<LedgerFault> for Refusal {
             LedgerFault::SizeTooLarge {
                 transaction: _,
                 size,
-            } => of_transactions(10, size, 16),
+            } => of_transactions(10, size, u16::from(LARGEST)),
             LedgerFault::StillAssigned { lowest, count } => {
                 of_transactions(11, lowest, u16::from(count))
             }
@@ -98,7 +99,7 @@ fn state_number(state: Transaction) -> u16
     }
 }
 
-// A refusal of this layer.
+// A refusal of this layer. One function for this layer and the tree's is no plainer: each call would name the layer besides.
 fn of_transactions(number: u8, item: u8, amount: u16) -> Refusal
     ensures { result ≡ of_transactions number item amount }
 {

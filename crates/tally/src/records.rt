@@ -15,7 +15,7 @@ use std::mem;
 use tree::{Tree, check_records};
 
 // The sectors of a record.
-const LARGEST: u8 = 16;
+pub(crate) const LARGEST: u8 = 16;
 
 /// A record that was emptied.
 #[derive(Clone, Copy, Debug, PartialEq, Eq)]

@@ -30,6 +30,7 @@ pub(crate) struct Change {
 pub(crate) fn step(t: u8, state: Transaction, asked: Asked) -> Result<Transaction, LedgerFault>
     ensures { result ≡ step_of t state asked }
 {
+    // The arms take volume, writes and frees apart: a struct of them is no plainer, since the variants are the rules' data, and their definitions cite the fields.
     match (state, asked) {
         (Transaction::Idle, Asked::Begin { volume }) => Ok(Transaction::Created { volume }),
         (Transaction::Created { volume }, Asked::HoldWrites { count }) => {
@@ -92,8 +93,9 @@ pub(crate) fn step(t: u8, state: Transaction, asked: Asked) -> Result<Transactio
                 frees,
             })
         }
-        (Transaction::Created { .. }, Asked::Abort) => Ok(Transaction::Idle),
-        (Transaction::Held { .. }, Asked::Abort) => Ok(Transaction::Idle),
+        (Transaction::Created { .. } | Transaction::Held { .. }, Asked::Abort) => {
+            Ok(Transaction::Idle)
+        }
         (
             Transaction::Assigned {
                 volume,
@@ -154,7 +156,7 @@ fn spent(t: u8, left: u8) -> Result<u8, LedgerFault>
         .ok_or(LedgerFault::NoneLeft { transaction: t })
 }
 
-// The volume of a transaction, 0 where it has none.
+// The volume of a transaction, 0 where it has none: an option is no plainer, since the Book's definition has the 0, and callers ask only where there is one.
 pub(crate) fn volume_of(state: Transaction) -> u8
     ensures { result ≡ volume_of state }
 {

@@ -36,10 +36,11 @@ impl Tally {
     pub(crate) fn change(&self, t: u8, asked: Asked) -> Result<Change, LedgerFault>
         ensures { result ≡ change_of self.now.transactions t asked }
     {
-        if t > 31 {
-            return Err(LedgerFault::NoSuchTransaction { transaction: t });
-        }
-        let before = self.transactions[usize::from(t)];
+        let before = self
+            .transactions
+            .get(usize::from(t))
+            .copied()
+            .ok_or(LedgerFault::NoSuchTransaction { transaction: t })?;
         let after = step(t, before, asked)?;
         Ok(Change { before, after })
     }

@@ -8,6 +8,7 @@ use Rattle.rules.specs.declared.state.Kind.{Kind}
 use Rattle.rules.specs.declared.state.Kind.TheVariants.{Folder, Volume}
 use Rattle.tree.specs.declared.fault.TreeFault.{TreeFault}
 use Rattle.tree.specs.declared.fault.TreeFault.TheVariants.{Missing, IsRoot, NotFolder, NotVolume, Full, RecordCount, QuotaTooSmall, ReservationTooLarge}
+use Rattle.tree.specs.declared.node.Node.{Node}
 use Rattle.tree.specs.declared.step.Arrival.{Arrival}
 use Rattle.tree.specs.Faults.{limit_fault}
 
@@ -70,8 +71,15 @@ as_volume rows kinds d = if_exists rows d (if_volume (kind_in kinds d) d (Ok tt)
 abbrev pub as_folder : List Row → List Kind → ℕ → Result (Unit {0}) TreeFault
 as_folder rows kinds d = if_exists rows d (if_folder (kind_in kinds d) d (Ok tt))
 
-abbrev pub as_child : List Row → ℕ → Result (Unit {0}) TreeFault
-as_child rows d = if_exists rows d (if_not_root d (Ok tt))
+-- what is kept of dataset d
+abbrev pub node_in : List Row → List Kind → ℕ → Node
+node_in rows kinds d = record { row = row rows d; charge = charge rows d; kind = kind_in kinds d }
+
+abbrev pub as_node : List Row → List Kind → ℕ → Result Node TreeFault
+as_node rows kinds d = if_exists rows d (Ok (node_in rows kinds d))
+
+abbrev pub as_child : List Row → List Kind → ℕ → Result Node TreeFault
+as_child rows kinds d = if_exists rows d (if_not_root d (Ok (node_in rows kinds d)))
 
 abbrev pub charge_answer : List Row → ℕ → Result ℕ TreeFault
 charge_answer rows d = if_exists rows d (Ok (charge rows d))

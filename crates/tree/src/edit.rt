@@ -51,8 +51,7 @@ impl Tree {
         ensures answer { result ≡ quota_answer (rows_of self.old) d units }
         ensures after { After self.old self.new (with_quota (rows_of self.old) d units) (kinds_of self.old) result }
     {
-        self.below_root(d)?;
-        let node = self.node(d);
+        let node = self.below_root(d)?;
         check_quota(d, units, node.charge, node.row.reservation)?;
         self.put_quota(d, units);
         Ok(node.charge)
@@ -63,8 +62,7 @@ impl Tree {
         ensures answer { result ≡ reservation_answer (room_of self.old) (rows_of self.old) d units }
         ensures after { After self.old self.new (with_reservation (rows_of self.old) d units) (kinds_of self.old) result }
     {
-        self.below_root(d)?;
-        let node = self.node(d);
+        let node = self.below_root(d)?;
         check_reservation(d, units, node.row.quota)?;
         self.judge_reservation(d, units)?;
         self.put_reservation(d, units);
@@ -87,13 +85,14 @@ impl Tree {
         ensures answer { result ≡ as_dataset (rows_of self.old) d }
         ensures after { After self.old self.new (with_own (rows_of self.old) d ((row_in (rows_of self.old) d).own - units)) (kinds_of self.old) result }
     {
-        self.dataset(d)?;
-        let own = self.node(d).row.own.saturating_sub(units);
+        let node = self.find(d)?;
+        let own = node.row.own.saturating_sub(units);
         self.put_own(d, own);
         Ok(())
     }
 
-    // A quota that is 0, or enough for the charge and the reservation.
+    // A quota that is 0, or enough for the charge and the reservation. That a dataset is below the root is a fact of the order's checks, said where
+    // it is used: a type for it would be no plainer, since it would borrow the tree, which each write ends.
     fn put_quota(&mut self, d: u8, units: u16)
         requires inside { d < length (rows_of self.old) }
         requires below { 0 < d }

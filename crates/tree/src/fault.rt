@@ -46,7 +46,7 @@ impl From<TreeFault> for Refusal {
     }
 }
 
-// A refusal of this layer.
+// A refusal of this layer. One function for this layer and the tally's is no plainer: each call would name the layer besides.
 fn tree_refusal(number: u8, item: u8, amount: u16) -> Refusal
     ensures { result ≡ tree_refusal number item amount }
 {

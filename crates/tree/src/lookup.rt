@@ -3,7 +3,7 @@ ghost use Rattle.std.specs.Prelude.{◌≡◌, ℕ, ◌^◌, ◌<◌, length, po
 ghost use Rattle.charges.specs.Tree.{charge as charge_in, row as row_in};
 ghost use Rattle.charges.specs.Walk.{walk as walk_in};
 ghost use Rattle.tree.specs.Parts.{Sound, kinds_of, room_of, rows_of};
-ghost use Rattle.tree.specs.Answers.{as_child, as_dataset, as_folder, as_volume, charge_answer, if_exists, if_granted, if_kind, kind_in, reservation_arrival, reservation_walk, walk_answer};
+ghost use Rattle.tree.specs.Answers.{as_child, as_dataset, as_folder, as_node, as_volume, charge_answer, if_exists, if_granted, if_kind, kind_in, reservation_arrival, reservation_walk, walk_answer};
 
 use super::Tree;
 use super::fault::TreeFault;
@@ -22,9 +22,7 @@ impl Tree {
     pub fn dataset(&self, d: u8) -> Result<(), TreeFault>
         ensures { result ≡ as_dataset (rows_of self.now) d }
     {
-        if !self.has(d) {
-            return Err(TreeFault::Missing { dataset: d });
-        }
+        self.find(d)?;
         Ok(())
     }
 
@@ -39,12 +37,12 @@ impl Tree {
     pub fn charge(&self, d: u8) -> Result<u16, TreeFault>
         ensures { result ≡ charge_answer (rows_of self.now) d }
     {
-        self.dataset(d)?;
-        Ok(self.node(d).charge)
+        Ok(self.find(d)?.charge)
     }
 
     /// The first dataset on the way from `d` to the root whose charge would pass its limit if the charge of `d` changed by `change`, and by how
     /// much. A rise and a fall go up by one rule. Nothing is changed.
+    // A pair: a struct would be no plainer, since the theorems' walk gives this pair, and would be told apart from it at each use.
     pub fn walk(&self, d: u8, change: i32) -> Option<(u8, u32)>
         ensures { result ≡ walk_answer (room_of self.now) (rows_of self.now) d change }
     {
@@ -60,6 +58,7 @@ impl Tree {
         ensures { result ≡ walk_in (room_of self.now) (rows_of self.now) first.dataset first.change }
     {
         let mut arrival = first;
+        // A loop: `successors(..).find_map(..)` is no plainer, since its closures would have to show that each dataset on the way is in the tree.
         'up: loop {
             let node = self.node(arrival.dataset);
             let short = arrival.shortfall(self.room, node);
@@ -137,23 +136,32 @@ impl Tree {
     fn of_kind(&self, d: u8, wanted: Kind) -> Result<(), TreeFault>
         ensures { result ≡ if_exists (rows_of self.now) d (if_kind wanted (kind_in (kinds_of self.now) d) d (Ok tt)) }
     {
-        self.dataset(d)?;
-        match (wanted, self.node(d).kind) {
+        match (wanted, self.find(d)?.kind) {
             (Kind::Folder, Kind::Volume) => Err(TreeFault::NotFolder { dataset: d }),
             (Kind::Volume, Kind::Folder) => Err(TreeFault::NotVolume { dataset: d }),
             _ => Ok(()),
         }
     }
 
-    // There is such a dataset, and it is not the root.
-    pub(crate) fn below_root(&self, d: u8) -> Result<(), TreeFault>
-        ensures { result ≡ as_child (rows_of self.now) d }
+    // What is kept of a dataset, if there is such a dataset and it is not the root.
+    pub(crate) fn below_root(&self, d: u8) -> Result<Node, TreeFault>
+        ensures { result ≡ as_child (rows_of self.now) (kinds_of self.now) d }
     {
-        self.dataset(d)?;
+        let node = self.find(d)?;
         if d == 0 {
             return Err(TreeFault::IsRoot { dataset: d });
         }
-        Ok(())
+        Ok(node)
+    }
+
+    // What is kept of a dataset, if there is such a dataset.
+    pub(crate) fn find(&self, d: u8) -> Result<Node, TreeFault>
+        ensures { result ≡ as_node (rows_of self.now) (kinds_of self.now) d }
+    {
+        self.nodes
+            .get(usize::from(d))
+            .copied()
+            .ok_or(TreeFault::Missing { dataset: d })
     }
 
     // What is kept of a dataset.
