@@ -140,6 +140,7 @@ impl<A: Allocator> Marks<A> {
         ensures sized { size_of self.new ≡ size_of self.old }
         ensures lent { A.Allocator.lent (pool_of self.new) ≡ A.Allocator.lent (pool_of self.old) }
     {
+        // Counted by hand: `count` asks for a finite iterator, and `from_fn` says that of no closure.
         let mut given = 0;
         while let Some(_) = self.give_one() {
             given += 1;

@@ -17,7 +17,8 @@ const ENTRIES: usize = 4096;
 /// through the units of that holder.
 #[derive(Drop)]
 pub struct Table {
-    // also the end of a list: an `Option<u16>` in each entry would take twice the memory, and the table is a fixed one
+    // Also the end of a list, as in a chain's lent entries: one definition, `Threads`, says what both lists are. An
+    // `Option<u16>` for each head and each `next` would need a second, and 48 KiB for the table in place of 32.
     size: u16,
     units: [Unit; ENTRIES],
     // the head of each record's units, at its place's index
@@ -109,6 +110,7 @@ impl Table {
         ensures many { result ≡ count (Record place.volume place.number) (rows_of self.old) }
         ensures sized { self.new.size ≡ self.old.size }
     {
+        // Counted by hand: `count` asks for a finite iterator, and `from_fn` says that of no closure.
         let mut moved = 0;
         while let Some(_) = self.shift(place) {
             moved += 1;
