@@ -56,11 +56,10 @@ pub record Going (F : Figures) (s : List ℕ) (b₀ : Book) (out₀ : List ℕ) 
   pub laid_so : out ≡ laid out₀ 0 (bytes_of xs)
   pub counted : n ≡ length xs
   pub wrote : w ≡ length (bytes_of xs)
-  pub fits : w ≤ length out₀
   pub few : n ≤ p
 
 pub start : (F : Figures) (s : List ℕ) (b : Book) (out : List ℕ) → Going F s b out b 0 0 0 out []
-start F s b out = record { fuel = length s + 1; enough = omega arith; same = refl; laid_so = refl; counted = refl; wrote = refl; fits = omega arith; few = omega arith }
+start F s b out = record { fuel = length s + 1; enough = omega arith; same = refl; laid_so = refl; counted = refl; wrote = refl; few = omega arith }
 
 past : (s : List ℕ) (p : ℕ) → length s ≤ p → decode s p ≡ finished
 past s p h = cond-false _ _ _ (le-ltb p (length s) h)
@@ -104,7 +103,6 @@ pub record Done (F : Figures) (s : List ℕ) (b₀ : Book) (out₀ : List ℕ) (
   pub ended_so : r ≡ end_of (ran_from (length s + 1) F s (length out₀) b₀ 0 0)
   pub exchanged_so : xs ≡ exchanges_in (ran_from (length s + 1) F s (length out₀) b₀ 0 0)
   pub laid_so : out ≡ laid out₀ 0 (bytes_of xs)
-  pub within_so : r.written ≤ length out₀
 
 ended_at : (xs : List Exchange) (z : Result ℕ ScriptFault) (n w : ℕ) → n ≡ length xs → w ≡ length (bytes_of xs) → ended_with z n w ≡ end_of (then xs (ends z))
 ended_at xs z n w en ew =
@@ -125,7 +123,6 @@ module _ (F : Figures) (s : List ℕ) (b₀ : Book) (out₀ : List ℕ) (b : Boo
         ended_so = ended_at xs z n w g.counted g.wrote ∙ ap end_of all;
         exchanged_so = sym (then_in xs z) ∙ ap exchanges_in all;
         laid_so = g.laid_so;
-        within_so = g.fits;
       }
 
   pub at_the_end : decode s p ≡ finished → Done F s b₀ out₀ out xs (ended_with (Ok p) n w)
@@ -147,9 +144,9 @@ module _ (F : Figures) (s : List ℕ) (b₀ : Book) (out₀ : List ℕ) (b : Boo
       (ap (λ (x : ℕ). ran_from x F s (length out₀) b p w) f.1 ∙ at-order F s (length out₀) b p w f.0 q m o e ∙ cond-true _ _ _ (lt-ltb (length out₀) (w + 17) l))
 
   pub one_more : (q : ℕ) (m : Meaning) (o : Option ℕ) (b' : Book) (w' : ℕ) (out' : List ℕ) → decode s p ≡ order m o q → p < q → w + 17 ≤ length out₀ →
-      b' ≡ book_after F b m (answer F b m) → w' ≡ w + length (answer_bytes (answer F b m)) → length (answer_bytes (answer F b m)) ≤ 17 → out' ≡ laid out w (answer_bytes (answer F b m)) →
+      b' ≡ book_after F b m (answer F b m) → w' ≡ w + length (answer_bytes (answer F b m)) → out' ≡ laid out w (answer_bytes (answer F b m)) →
       Going F s b₀ out₀ b' q (n + 1) w' out' (xs ++ exchange m (answer F b m) ∷ [])
-  one_more q m o b' w' out' e up l eb ew short eo =
+  one_more q m o b' w' out' e up l eb ew eo =
       let a = answer F b m in
       let f = some-fuel g.fuel refl (within s p q m o e) in
       let here : ran_from g.fuel F s (length out₀) b p w ≡ more (exchange m a) (ran_from f.0 F s (length out₀) b' q w') =
@@ -166,6 +163,5 @@ module _ (F : Figures) (s : List ℕ) (b₀ : Book) (out₀ : List ℕ) (b : Boo
             ∙ sym (laid_append out₀ 0 (bytes_of xs) (answer_bytes a)) ∙ ap (laid out₀ 0) (sym (bytes_push xs (exchange m a)));
         counted = omega (arith, g.counted, length_push xs (exchange m a));
         wrote = omega (arith, ew, g.wrote, ap length (bytes_push xs (exchange m a)), length-append (bytes_of xs) (answer_bytes a));
-        fits = omega (arith, ew, short);
         few = omega (arith, g.few);
       }

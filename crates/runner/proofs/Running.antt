@@ -1,5 +1,5 @@
 -- A run under way: the ledger went through what was exchanged so far.
-use Rattle.std.proofs.Common.{◌≡◌, ℕ, ◌+◌, ◌<◌, ◌≤◌, List, [], ◌∷◌, ◌++◌, length, Some, Ok, Err, Option, Result, sym, ap, ◌∙◌, subst, arith}
+use Rattle.std.proofs.Common.{◌≡◌, ℕ, ◌+◌, ◌<◌, ◌≤◌, List, [], ◌∷◌, ◌++◌, length, Some, Ok, Err, Option, Result, sym, ap, ◌∙◌, subst}
 use Rattle.std.proofs.lemmas.Bool.{cond-true, cond-false, le-ltb, lt-ltb}
 use Rattle.pool.specs.declared.allocator.Allocator.{Ghosts as AllocatorMembers}
 use Rattle.costs.specs.declared.policy.CostPolicy.{Ghosts as PolicyMembers}
@@ -22,7 +22,7 @@ use Rattle.runner.specs.declared.fault.ScriptFault.{ScriptFault}
 use Rattle.runner.specs.declared.fault.ScriptFault.TheVariants.{TooLong, Unreadable, NoRoom}
 use Rattle.runner.specs.Runs.{Ran, ends, ran_from, ran, exchanges_in, ended_with, end_of}
 use Rattle.runner.specs.Steps.{One}
-use Rattle.runner.proofs.Ones.{after, short}
+use Rattle.runner.proofs.Ones.{after}
 use Rattle.runner.proofs.Going.{Going, start, one_more, long, Done, at_the_end, at_a_fault, no_room}
 
 pub record Running {A P : Type 0} {gA : AllocatorMembers A} {gP : PolicyMembers P} (l₀ l : Ledger A P gA gP) (s out₀ : List ℕ) (p n w : ℕ) (out : List ℕ) : Type 0 where
@@ -49,7 +49,6 @@ module _ {A P : Type 0} {gA : AllocatorMembers A} {gP : PolicyMembers P} where
         going =
             one_more F s (book_of l₀) out₀ b p n w out run.so_far run.going q m o (book_of l') (w + length (answer_bytes a)) out' e up room booked
             (ap (λ (c : Answer). w + length (answer_bytes c)) ruled)
-            (subst (λ (c : Answer). length (answer_bytes c) ≤ 17) ruled (short a did.proper))
             (eo ∙ ap (λ (c : Answer). laid out w (answer_bytes c)) ruled);
         through = after l₀ l l' run.so_far m (answer F b m) run.through done;
       }
@@ -61,7 +60,6 @@ module _ {A P : Type 0} {gA : AllocatorMembers A} {gP : PolicyMembers P} where
   pub record Finished (l₀ l : Ledger A P gA gP) (s out₀ out : List ℕ) (r : Ended) : Type 0 where
     pub ended_so : r ≡ end_of (ran (figures l₀) s (length out₀) (book_of l₀))
     pub bytes_so : out ≡ laid out₀ 0 (bytes_of (exchanges_in (ran (figures l₀) s (length out₀) (book_of l₀))))
-    pub within_so : r.written ≤ length out₀
     pub through : Through l₀ l (exchanges_in (ran (figures l₀) s (length out₀) (book_of l₀)))
 
   pub finish : (l₀ l : Ledger A P gA gP) (s out₀ : List ℕ) (p n w : ℕ) (out : List ℕ) (run : Running l₀ l s out₀ p n w out) (r : Ended) →
@@ -72,7 +70,6 @@ module _ {A P : Type 0} {gA : AllocatorMembers A} {gP : PolicyMembers P} where
       let x = d.exchanged_so ∙ ap exchanges_in e in
       record {
         ended_so = d.ended_so ∙ ap end_of e;
-        within_so = d.within_so;
         bytes_so = d.laid_so ∙ ap (λ (ys : List Exchange). laid out₀ 0 (bytes_of ys)) x;
         through = subst (λ (ys : List Exchange). Through l₀ l ys) x run.through;
       }
@@ -82,7 +79,6 @@ module _ {A P : Type 0} {gA : AllocatorMembers A} {gP : PolicyMembers P} where
       let e : ends (Err TooLong) ≡ ran (figures l) s (length out) (book_of l) = sym (cond-true _ _ _ (lt-ltb 4096 (length s) long)) in
       record {
         ended_so = ap end_of e;
-        within_so = omega arith;
         bytes_so = ap (λ (r : Ran). laid out 0 (bytes_of (exchanges_in r))) e;
         through = subst (λ (r : Ran). Through l l (exchanges_in r)) e (through-none l);
       }

@@ -6,7 +6,7 @@ use super::fault::{ScriptFault, short_place};
 use orders::answer::Answer;
 
 /// What came of a run: why it stopped, how many orders it answered, and how many bytes the answers have.
-#[derive(Clone, Copy)]
+#[derive(Clone, Copy, PartialEq, Eq, Debug)]
 pub struct Ended {
     /// The place of the script's end, or why no further order could be read or answered.
     pub stop: Result<usize, ScriptFault>,
@@ -19,32 +19,26 @@ impl Ended {
     pub fn number(self) -> u8
         ensures { result ≡ (stop_ground self.stop).0 }
     {
-        match self.stop {
-            Ok(_) => 0,
-            Err(fault) => fault.number(),
-        }
+        self.stop.map_or_else(|fault| fault.number(), |_| 0)
     }
 
     /// The script's length at its end, 0 for a script that is too long, and else the place of the order that stopped the run.
     pub fn place(self) -> usize
         ensures { result ≡ (stop_ground self.stop).1 }
     {
-        match self.stop {
-            Ok(place) => place,
-            Err(fault) => fault.place(),
-        }
+        self.stop.unwrap_or_else(|fault| fault.place())
     }
 
     /// The answer that says how the run ended.
     pub fn answer(self) -> Answer
         ensures { result ≡ stop_answer self.stop }
     {
-        match self.stop {
-            Ok(place) => Answer::Stopped {
+        self.stop.map_or_else(
+            Answer::from,
+            |place| Answer::Stopped {
                 number: 0,
                 place: short_place(place),
             },
-            Err(fault) => Answer::from(fault),
-        }
+        )
     }
 }

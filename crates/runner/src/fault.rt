@@ -8,7 +8,7 @@ use reader::fault::ReadFault;
 use tally::fault::LedgerFault;
 
 /// Why a run stops, or an order of a script is refused.
-#[derive(Clone, Copy)]
+#[derive(Clone, Copy, PartialEq, Eq, Debug)]
 pub enum ScriptFault {
     /// The script is longer than 4,096 bytes.
     TooLong,
@@ -53,6 +53,7 @@ impl ScriptFault {
             ScriptFault::TooLong => 0,
             ScriptFault::Unreadable(fault) => fault.place(),
             ScriptFault::NoRoom { place } => place,
+            // 0, as the definition has it: no place is known yet.
             ScriptFault::Refused { fault: _, place } => place.unwrap_or(0),
         }
     }

@@ -39,7 +39,8 @@ fn obey_at<A: Allocator, P: CostPolicy>(
         .map_err(|fault| ScriptFault::from(fault).at(place))
 }
 
-// The answer that the result of an order means: `81` is read off the fault.
+// The answer that the result of an order means: `81` is read off the fault. One function with the ledger's `answer`, over any error,
+// is no plainer: a refusal of the ledger becomes an answer as a `Refusal`, one of a script by itself.
 fn answer(res: Result<Reply, ScriptFault>) -> Answer
     ensures { result ≡ answer_at res }
 {
@@ -55,12 +56,12 @@ struct Output<'a> {
     bytes: &'a mut [u8],
     written: usize,
     answered: usize,
+    ghost within: { written ≤ length bytes.now },
 }
 
 impl Output<'_> {
     // How many bytes are left.
     fn room(&self) -> usize
-        requires { self.now.written ≤ length self.now.bytes.now }
         ensures { result + self.now.written ≡ length self.now.bytes.now }
     {
         self.bytes.len() - self.written
@@ -91,7 +92,6 @@ fn run_orders<A: Allocator, P: CostPolicy>(
     requires none { (out.old.written ≡ 0) × (out.old.answered ≡ 0) }
     ensures ended { ended_with result out.new.answered out.new.written ≡ end_of (ran (figures ledger.old) script.now (length out.old.bytes.now) (book_of ledger.old)) }
     ensures bytes { out.new.bytes.now ≡ laid out.old.bytes.now 0 (bytes_of (exchanges_in (ran (figures ledger.old) script.now (length out.old.bytes.now) (book_of ledger.old)))) }
-    ensures within { out.new.written ≤ length out.old.bytes.now }
     ensures through { Through ledger.old ledger.new (exchanges_in (ran (figures ledger.old) script.now (length out.old.bytes.now) (book_of ledger.old))) }
     ensures same_reference { out.new.bytes.ghost_name ≡ out.old.bytes.ghost_name }
 {

@@ -4,26 +4,20 @@
 #[cfg(test)]
 mod tests {
     use costs::copies::Copies;
+    use costs::fault::CostFault;
     use costs::policy::CostPolicy;
-    use ledger::fault::ServeFault;
+    use ledger::fault::{MakeFault, ServeFault};
     use ledger::serve::serve;
-    use orders::answer::Answer;
+    use orders::answer::{Answer, Figures, Layer, Refusal};
     use orders::order::{Name, Order};
-    use pool::allocator::Allocator;
+    use pool::allocator::{Allocator, AllocatorFault};
     use pool::bitmap::Bitmap;
+    use runner::ended::Ended;
+    use runner::fault::ScriptFault;
     use setup::calls::{run_on_bitmap, run_on_chain, run_on_joined, run_on_nested};
+    use setup::fault::SetupFault;
     use setup::scheme::Scheme;
     use std::test::Fail;
-
-    // An answer in one number: its value, or the number of its refusal and 1000.
-    fn summed(answer: Answer) -> u32 {
-        match answer {
-            Answer::Done { value } => u32::from(value),
-            Answer::Refused(refusal) => 1000 + u32::from(refusal.number),
-            Answer::Told(figures) => u32::from(figures.charge),
-            Answer::Stopped { .. } => 0,
-        }
-    }
 
     // Serves the orders over any allocator; which of the first eight units are out then.
     fn units_out<A: Allocator + Drop, P: CostPolicy + Drop>(
@@ -76,7 +70,30 @@ mod tests {
         let mut answers = [Answer::Done { value: 7 }; 8];
         let out = units_out(pool, Copies::make(1), &orders, &mut answers)?;
         assert_eq!(rt; out, [true, true, true, true, true, false, false, false]);
-        assert_eq!(rt; answers.map(summed), [1, 16, 16, 16, 5, 1008, 5, 7]);
+        assert_eq!(rt;
+            answers,
+            [
+                Answer::Done { value: 1 },
+                Answer::Done { value: 16 },
+                Answer::Done { value: 16 },
+                Answer::Done { value: 16 },
+                Answer::Done { value: 5 },
+                Answer::Refused(Refusal {
+                    number: 8,
+                    layer: Layer::Transactions,
+                    item: 0,
+                    amount: 0,
+                }),
+                Answer::Told(Figures {
+                    name: [0; 8],
+                    charge: 5,
+                    record_units: 5,
+                    deferred_units: 0,
+                    unspent_grants: 0,
+                }),
+                Answer::Done { value: 7 },
+            ]
+        );
         Ok(())
     }
 
@@ -89,42 +106,67 @@ mod tests {
         let orders = [Order::Turn, Order::Turn];
         let out = units_out(pool, Copies::make(1), &orders, &mut answers);
         assert_eq!(rt; out, Err(ServeFault::FewPlaces));
-        assert_eq!(rt; summed(answers[0]), 7);
+        assert_eq!(rt; answers[0], Answer::Done { value: 7 });
     }
 
-    // Runs two tells of the root with so many answer bytes; the number that stops it, the place, the orders answered and the bytes written.
-    fn tell_twice(answers: &mut [u8]) -> (u8, usize, usize, usize) {
+    // Runs two tells of the root with so many answer bytes.
+    fn tell_twice(answers: &mut [u8]) -> Result<Ended, SetupFault> {
         let mut memory = [0u8; 1];
-        match run_on_bitmap(
+        run_on_bitmap(
             &mut memory,
             8,
             0,
             Scheme::Copies { n: 1 },
             &[0x21, 0, 0x21, 0],
             answers,
-        ) {
-            Ok(ended) => (ended.number(), ended.place(), ended.answered, ended.written),
-            Err(fault) => (fault.number(), 0, 0, 0),
-        }
+        )
     }
 
     // Seventeen bytes left are enough for an order, sixteen are not; the bytes past the answers are kept.
     #[test]
-    fn room_for_an_answer(rt: HostRuntime) {
+    fn room_for_an_answer(rt: HostRuntime) -> Result<(), Fail> {
         let mut enough = [9u8; 34];
-        assert_eq!(rt; tell_twice(&mut enough), (0, 4, 2, 34));
+        let ended = tell_twice(&mut enough)?;
+        assert_eq!(rt;
+            ended,
+            Ended {
+                stop: Ok(4),
+                answered: 2,
+                written: 34,
+            }
+        );
+        assert_eq!(rt; (ended.number(), ended.place()), (0, 4));
         let mut short = [9u8; 33];
-        assert_eq!(rt; tell_twice(&mut short), (4, 2, 1, 17));
+        let ended = tell_twice(&mut short)?;
+        assert_eq!(rt;
+            ended,
+            Ended {
+                stop: Err(ScriptFault::NoRoom { place: 2 }),
+                answered: 1,
+                written: 17,
+            }
+        );
+        assert_eq!(rt; (ended.number(), ended.place()), (4, 2));
         assert_eq!(rt; short[16], 0);
         assert_eq!(rt; short[17], 9);
         let mut none = [9u8; 16];
-        assert_eq!(rt; tell_twice(&mut none), (4, 0, 0, 0));
+        let ended = tell_twice(&mut none)?;
+        assert_eq!(rt;
+            ended,
+            Ended {
+                stop: Err(ScriptFault::NoRoom { place: 0 }),
+                answered: 0,
+                written: 0,
+            }
+        );
+        assert_eq!(rt; (ended.number(), ended.place()), (4, 0));
         assert_eq!(rt; none[0], 9);
+        Ok(())
     }
 
-    // The number by which a run over four parts of so many units is refused, with so many units kept back and three parity
+    // Why a run over four parts of so many units is refused, and by what number, with so many units kept back and three parity
     // sectors over three disks.
-    fn nested_refusal(units: [usize; 4], slop: u16) -> Option<u8> {
+    fn nested_refusal(units: [usize; 4], slop: u16) -> Option<(SetupFault, u8)> {
         let mut bits = [0u8; 1];
         let mut links = [0u16; 8];
         let mut more_bits = [0u8; 1];
@@ -141,16 +183,25 @@ mod tests {
             &[],
             &mut answers,
         );
-        res.err().map(|fault| fault.number())
+        res.err().map(|fault| (fault, fault.number()))
     }
 
     // Of several bad figures the lowest number is answered: nine entries in the room of eight, then all units kept back, then the
     // parity sectors.
     #[test]
     fn lowest_number(rt: HostRuntime) {
-        assert_eq!(rt; nested_refusal([8, 8, 8, 9], 99), Some(20));
-        assert_eq!(rt; nested_refusal([8, 8, 8, 8], 32), Some(21));
-        assert_eq!(rt; nested_refusal([8, 8, 8, 8], 31), Some(23));
+        assert_eq!(rt;
+            nested_refusal([8, 8, 8, 9], 99),
+            Some((SetupFault::Pool(AllocatorFault::BadSize), 20))
+        );
+        assert_eq!(rt;
+            nested_refusal([8, 8, 8, 8], 32),
+            Some((SetupFault::Ledger(MakeFault::SlopTooLarge), 21))
+        );
+        assert_eq!(rt;
+            nested_refusal([8, 8, 8, 8], 31),
+            Some((SetupFault::Policy(CostFault::FiguresOutOfRange), 23))
+        );
     }
 
     // A volume of two records, one write held and assigned, and five sectors written to record 1.
@@ -169,8 +220,7 @@ mod tests {
             Scheme::Copies { n: 1 },
             ONE_WRITE,
             &mut answers,
-        )
-        .map_err(|_| Fail::new("a bitmap of 100 units"))?;
+        )?;
         assert_eq!(rt; ended.answered, 5);
         assert_eq!(rt; memory, [0x1f, 0, 0, 0, 0, 0, 0, 0, 0, 0, 0, 0, 0xa0, 0xaa]);
         Ok(())
@@ -188,8 +238,7 @@ mod tests {
             Scheme::Copies { n: 1 },
             ONE_WRITE,
             &mut answers,
-        )
-        .map_err(|_| Fail::new("a chain of 20 units"))?;
+        )?;
         assert_eq!(rt; ended.answered, 5);
         assert_eq!(rt;
             links,
@@ -215,8 +264,7 @@ mod tests {
             Scheme::Copies { n: 1 },
             ONE_WRITE,
             &mut answers,
-        )
-        .map_err(|_| Fail::new("a pair of 20 units"))?;
+        )?;
         assert_eq!(rt; ended.answered, 5);
         assert_eq!(rt; memory, [0xaf, 0xaa]);
         assert_eq!(rt;

@@ -9,7 +9,7 @@ use orders::answer::Refusal;
 use pool::allocator::AllocatorFault;
 
 /// Why no ledger can be made of these figures and this memory.
-#[derive(Clone, Copy)]
+#[derive(Clone, Copy, PartialEq, Eq, Debug)]
 pub enum SetupFault {
     /// No allocator can be made.
     Pool(AllocatorFault),

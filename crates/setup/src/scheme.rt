@@ -8,7 +8,7 @@ use costs::fault::CostFault;
 use costs::parity::Parity;
 
 /// The figures of a cost policy, which need not be in their range.
-#[derive(Clone, Copy)]
+#[derive(Clone, Copy, PartialEq, Eq, Debug)]
 pub enum Scheme {
     /// So many copies of each sector.
     Copies { n: u8 },

@@ -26,7 +26,7 @@ returns-in_err-order g c =
     let f = running.faults_there c.args.ledger.now o.ledger c.args.script.now (script_of o.reader) c.args.out.now.bytes.now (place_of o.reader) c.place-place.result
     o.out.answered o.out.written o.out.bytes.now o.invariant.same c.place-place.ensures c.requires.few o.invariant.run
     c.in_err-order.field-0.0 c.in_err-order.ensures.value.0 in
-    record { ended = rw (p.1, p.2) f.ended_so; bytes = f.bytes_so; within = f.within_so; through = f.through; same_reference = o.invariant.named }
+    record { ended = rw (p.1, p.2) f.ended_so; bytes = f.bytes_so; through = f.through; same_reference = o.invariant.named }
 
 pub returns-in_default : goal.returns-in_default
 returns-in_default g c =
@@ -34,12 +34,7 @@ returns-in_default g c =
     let value = subst (λ (x : Option Order). ReadOne (script_of o.reader) (place_of o.reader) (place_of c.next_order.new.self) (Ok x)) c.in_default.is c.in_ok-order.ensures.value in
     let f = running.ends_there c.args.ledger.now o.ledger c.args.script.now (script_of o.reader) c.args.out.now.bytes.now (place_of o.reader) c.place-place.result
     o.out.answered o.out.written o.out.bytes.now o.invariant.same c.place-place.ensures c.requires.few o.invariant.run value.0 in
-    record { ended = f.ended_so; bytes = f.bytes_so; within = f.within_so; through = f.through; same_reference = o.invariant.named }
-
-pub room-requires : goal.room-requires
-room-requires g c =
-    let o = c.orders in
-    omega (arith, o.invariant.run.going.fits, running.kept c.args.ledger.now o.ledger c.args.script.now c.args.out.now.bytes.now (place_of o.reader) o.out.answered o.out.written o.out.bytes.now o.invariant.run)
+    record { ended = f.ended_so; bytes = f.bytes_so; through = f.through; same_reference = o.invariant.named }
 
 pub returns-then-room-lt-LONGEST_ANSWER : goal.returns-then-room-lt-LONGEST_ANSWER
 returns-then-room-lt-LONGEST_ANSWER g c =
@@ -49,7 +44,7 @@ returns-then-room-lt-LONGEST_ANSWER g c =
     let f = running.lacks_room c.args.ledger.now o.ledger c.args.script.now (script_of o.reader) c.args.out.now.bytes.now (place_of o.reader) c.place-place.result
     o.out.answered o.out.written o.out.bytes.now o.invariant.same c.place-place.ensures c.requires.few o.invariant.run
     c.in_ok-order.field-0 c.in-Some.order (place_of c.next_order.new.self) c.in-Some.is c.in_ok-order.ensures.value less in
-    record { ended = f.ended_so; bytes = f.bytes_so; within = f.within_so; through = f.through; same_reference = o.invariant.named }
+    record { ended = f.ended_so; bytes = f.bytes_so; through = f.through; same_reference = o.invariant.named }
 
 -- there is room for any answer
 pub push-requires : goal.push-requires
