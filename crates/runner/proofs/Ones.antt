@@ -2,9 +2,7 @@
 use Rattle.std.proofs.Common.{◌≡◌, ℕ, ◌≤◌, List, [], ◌∷◌, ◌++◌, length, sym, ap, ◌∙◌, subst, append_assoc, arith}
 use Rattle.std.proofs.Props.{props}
 use Rattle.std.proofs.lemmas.List.{append-nil, length-append}
-use mathlib.Core.Logic.{∥∥₁_elim}
-use native.Mathlib.Nat.{ℕ_set}
-use native.Mathlib.Bridge.{le_prop}
+use Rattle.std.proofs.Math.Logic.{∥∥₁_elim}
 use Rattle.orders.specs.declared.answer.Layer.{Layer}
 use Rattle.pool.specs.declared.allocator.Allocator.{Ghosts as AllocatorMembers}
 use Rattle.costs.specs.declared.policy.CostPolicy.{Ghosts as PolicyMembers}
@@ -49,10 +47,10 @@ own_once Layer.Allocator n = hlevel props
 
 -- an answer is proper in one way only
 proper_once : (a : Answer) → IsProp (Proper a)
-proper_once (Done v) x y = le_prop x y
-proper_once (Refused f) x y = λ i. (own_once f.layer f.number x.0 y.0 i, le_prop x.1 y.1 i, le_prop x.2 y.2 i)
-proper_once (Told f) x y = λ i. (ℕ_set _ _ x.0 y.0 i, le_prop x.1 y.1 i, le_prop x.2 y.2 i, le_prop x.3 y.3 i, le_prop x.4 y.4 i)
-proper_once (Stopped n q) x y = absurd x
+proper_once (Done v) = hlevel props
+proper_once (Refused f) = let own : IsProp (Own f.layer f.number) = own_once f.layer f.number in hlevel props
+proper_once (Told f) = hlevel props
+proper_once (Stopped n q) = hlevel props
 
 module _ {A P : Type 0} {gA : AllocatorMembers A} {gP : PolicyMembers P} where
   -- from what the ledger promises of an order; an answer is proper since the journal with it is lawful

@@ -15,7 +15,7 @@ use costs::parity::Parity;
 use costs::policy::CostPolicy;
 use ledger::Ledger;
 use ledger::fault::MakeFault;
-use pool::allocator::{Allocator, AllocatorFault};
+use pool::allocator::{Allocator, AllocatorFault, MOST_UNITS};
 use pool::bitmap::Bitmap;
 use pool::chain::Chain;
 use pool::joined::Joined;
@@ -117,7 +117,7 @@ fn check_few(first: usize, second: usize) -> Result<(), AllocatorFault>
     requires { (first ≤ 4096) × (second ≤ 4096) }
     ensures { PoolChecked (first + second ≤ 4096) result }
 {
-    if first + second > 4096 {
+    if first + second > MOST_UNITS {
         return Err(AllocatorFault::BadSize);
     }
     Ok(())
