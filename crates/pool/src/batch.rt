@@ -10,6 +10,7 @@ fn give_back<A: Allocator>(pool: &mut A, list: &mut [Option<u16>])
     ensures lent { A.Allocator.lent pool.new ≡ A.Allocator.lent pool.old }
     ensures list { list.new ≡ replicate (length list.old) None }
 {
+    // By place: over `list.iter().flatten()` the proof was tried, and did not close.
     for place in list.iter() {
         if let Some(unit) = *place {
             let _ = pool.give(unit);
