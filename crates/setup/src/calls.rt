@@ -71,8 +71,8 @@ fn check_plan(units: usize, slop: u16, scheme: Scheme) -> Result<(), SetupFault>
     Ok(())
 }
 
-// Each of the next four checks its memory and lends it then, so that a refusal writes nothing. One function over a trait of
-// memories is no plainer: it would take each memory twice, shared for the check and lent for the making.
+// Each of the next four checks its memory and lends it then, and its contract names the memory that it was lent: a refusal
+// leaves it. One function over a trait of memories is no plainer: it would take each memory twice, shared for the check and lent for the making.
 
 /// Runs a script on a new ledger over a bitmap of so many units. A refusal writes nothing.
 pub fn run_on_bitmap(
