@@ -35,14 +35,6 @@ took_neither us vs ws xs f h s t = (
 )
 
 -- the part that has a unit
-pub at_first : (us ws : List Bool) (n u : ℕ) (b : Bool) → n ≡ length us → u < n → b ≡ get_or us u false → b ≡ get_or (us ++ ws) u false
-at_first us ws n u b e h o = o ∙ sym (get_or_append_left us ws false u (omega arith))
-
-pub at_second : (us ws : List Bool) (n u v : ℕ) (b : Bool) → n ≡ length us → n + v ≡ u → b ≡ get_or ws v false → b ≡ get_or (us ++ ws) u false
-at_second us ws n u v b e q o =
-    let k : u - n ≡ v = omega arith in
-    o ∙ sym (get_or-append_right us ws n u false (sym e) (omega arith) ∙ ap (λ (j : ℕ). get_or ws j false) k)
-
 pub gave_first : (us vs ws : List Bool) (n u : ℕ) (r : Result (Unit {0}) AllocatorFault) → n ≡ length us → u < n → Gave us vs u r → Gave (us ++ ws) (vs ++ ws) u r
 gave_first us vs ws n u (Ok _) e h t =
     let b : u < length us = omega arith in

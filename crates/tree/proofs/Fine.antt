@@ -1,5 +1,5 @@
 -- What holds of the datasets' rows and kept charges, and that each call keeps it.
-use Rattle.std.proofs.Common.{◌≡◌, ℕ, ◌^◌, ◌<◌, ◌≤◌, true, ◌≢◌, List, [], ◌∷◌, ◌++◌, length, get_or, pos, ◌-ℤ◌, sym, refl, ap, ◌∙◌, inl, inr, arith}
+use Rattle.std.proofs.Common.{◌≡◌, ℕ, ◌^◌, ◌<◌, ◌≤◌, ◌≢◌, List, [], ◌∷◌, ◌++◌, length, get_or, pos, ◌-ℤ◌, sym, ap, ◌∙◌, inl, inr, arith}
 use Rattle.std.proofs.lemmas.List.{get_or_past, length-map, length_push, get_or_push, get_or_append_left}
 use Rattle.std.proofs.lemmas.Bool.{cases_eq, cases_lt}
 use Rattle.charges.specs.declared.Row.{Row}
@@ -13,11 +13,9 @@ use Rattle.charges.proofs.Limits.{limit-law}
 use Rattle.charges.proofs.Falls.{quota-law}
 use Rattle.charges.proofs.News.{add_law}
 use Rattle.charges.proofs.Spreads.{keep_law}
-use Rattle.rules.specs.declared.state.Kind.{Kind}
-use Rattle.rules.specs.declared.state.Kind.TheVariants.{Folder, Volume}
-use Rattle.tree.specs.Fields.{InQuotas, is_folder}
+use Rattle.tree.specs.Fields.{InQuotas}
 use Rattle.tree.specs.declared.Tree.{Tree}
-use Rattle.tree.specs.Parts.{room_of, rows_of, charges_of, kinds_of, Sound}
+use Rattle.tree.specs.Parts.{room_of, rows_of, charges_of, kinds_of}
 
 pub record Fine (room : ℕ) (rows : List Row) (kept : List ℕ) : Type 0 where
   pub rooted : Rooted rows
@@ -45,24 +43,6 @@ fine t = record {
   reserved = t.reserved;
   root_reservation = t.root.0;
   root_quota = t.root.1;
-}
-
-folder-is : (k : Kind) → is_folder k ≡ true → k ≡ Folder
-folder-is Folder e = refl
-folder-is Volume e = let z : ◌≡◌ {A = ℕ} 0 1 = cc in absurd (omega arith)
-
-pub sound : (t : Tree) → Sound t
-sound t = record {
-  small = t.sized.0;
-  some = omega (arith, count t, t.sized);
-  few = omega (arith, count t, t.sized);
-  as_many = kind-count t;
-  rooted = t.rooted;
-  keeps = (fine t).keeps;
-  within = t.within;
-  reserved = record { root_none = t.root.0; in_quota = t.reserved };
-  root_quota = t.root.1;
-  root_folder = folder-is (get_or (kinds_of t) 0 Folder) t.root.2;
 }
 
 module _ (room : ℕ) (rows : List Row) (kept : List ℕ) (f : Fine room rows kept) where

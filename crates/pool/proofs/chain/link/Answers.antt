@@ -1,11 +1,7 @@
-use Rattle.std.proofs.Common.{◌≡◌, ◌+◌, length, take, arith}
+use Rattle.std.proofs.Common.{◌≡◌, length, take, arith}
 use Rattle.std.proofs.lemmas.List.{length-take-le}
-use Rattle.std.proofs.lemmas.List.Edits.{fill_by_more}
 use Rattle.pool.proofs.Chains.{linking}
 use Rattle.pool.proofs.chain.link.Goals as goal
-
-pub loop-i-preserved : goal.loop-i-preserved
-loop-i-preserved c = fill_by_more (λ k. k + 1) c.loop-i.entry-items c.loop-i.i 0 (omega arith) c.loop-i.invariant
 
 pub returns : goal.returns
 returns c =
