@@ -297,6 +297,38 @@ cleared_front bs xs n m s l r front =
     (λ k h. get_or_append_left xs (drop m bs) 0 k (omega arith) ∙ front k h ∙ ap (λ (x : ℕ). low_cleared x (n - 8 * k)) (get_or-take m bs k 0 h))
     (λ k h. let e : m + (k - m) ≡ k = omega arith in get_or-append_right xs (drop m bs) m k 0 l h ∙ get_or-drop m bs (k - m) 0 ∙ ap (λ (j : ℕ). get_or bs j 0) e)
 
+-- the whole bytes are cleared, and then the byte in which the units end
+low_all : (x n : ℕ) → x < 256 → 8 ≤ n → low_cleared x n ≡ 0
+low_all x n b h =
+    let m : min n 8 ≡ 8 = omega arith in
+    let z : x / 2 ^ 8 * 2 ^ 8 ≡ 0 = omega arith in
+    ap (λ (y : ℕ). x / 2 ^ y * 2 ^ y) m ∙ z
+
+pub cleared_whole : (bs xs : List ℕ) (n : ℕ) → n ≤ 8 * length bs → ((k : ℕ) → get_or bs k 0 < 256) → xs ≡ replicate (length (take (n / 8) bs)) 0 → xs ++ drop (n / 8) bs ≡ cleared bs (8 * (n / 8))
+cleared_whole bs xs n r b e =
+    let i = n / 8 in
+    let x : xs ≡ replicate i 0 = e ∙ ap (λ (m : ℕ). replicate m 0) (length-take-le i bs (omega arith)) in
+    cleared_front bs xs (8 * i) i (omega arith) (ap length x ∙ length-replicate i 0) (omega arith)
+    (λ k h. ap (λ (l : List ℕ). get_or l k 0) x ∙ get_or-replicate i k 0 0 h ∙ sym (low_all (get_or (take i bs) k 0) (8 * i - 8 * k) (omega (arith, b k, get_or-take i bs k 0 h)) (omega arith)))
+
+pub cleared_last : (bs cs : List ℕ) (n v : ℕ) → n ≤ 8 * length bs → 8 * (n / 8) < n → cs ≡ cleared bs (8 * (n / 8)) → v ≡ low_cleared (get_or cs (n / 8) 0) (n - 8 * (n / 8)) → set cs (n / 8) v ≡ cleared bs n
+cleared_last bs cs n v r h e s =
+    let i = n / 8 in
+    let l : length cs ≡ length bs = ap length e ∙ length-cleared bs (8 * i) in
+    let was : (k : ℕ) → k < length bs → get_or cs k 0 ≡ low_cleared (get_or bs k 0) (8 * i - 8 * k) = λ k b. ap (λ (x : List ℕ). get_or x k 0) e ∙ cleared_at bs (8 * i) k b in
+    fill_by_all (λ k. low_cleared (get_or bs k 0) (n - 8 * k)) (set cs i v) (length bs) 0 (length-set cs i v ∙ l)
+    (λ k b. elim (cases_eq k i) [
+      | inl q ↦
+          let z : 8 * i - 8 * i ≡ 0 = omega arith in
+          let o : low_cleared (get_or bs i 0) 0 ≡ get_or bs i 0 = omega arith in
+          let w : get_or cs i 0 ≡ get_or bs i 0 = was i (omega arith) ∙ ap (low_cleared (get_or bs i 0)) z ∙ o in
+          ap (λ (j : ℕ). get_or (set cs i v) j 0) q ∙ get_or-set_same cs i v 0 (omega arith) ∙ s ∙ ap (λ (x : ℕ). low_cleared x (n - 8 * i)) w
+          ∙ ap (λ (j : ℕ). low_cleared (get_or bs j 0) (n - 8 * j)) (sym q)
+      | inr o ↦
+          let m : min (8 * i - 8 * k) 8 ≡ min (n - 8 * k) 8 = omega arith in
+          get_or-set_other cs i k v 0 o ∙ was k b ∙ ap (λ (y : ℕ). get_or bs k 0 / 2 ^ y * 2 ^ y) m
+    ])
+
 -- a bit of a unit is none of what the memory holds beside the units
 low-turned : (x n j : ℕ) → j < min n 8 → low_cleared (bit_xor x (2 ^ j)) n ≡ low_cleared x n
 low-turned x n j h =

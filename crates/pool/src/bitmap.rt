@@ -43,8 +43,10 @@ fn clear(memory: &mut [u8], size: usize)
     requires { size ≤ 8 * length memory.old }
     ensures { memory.new ≡ cleared memory.old size }
 {
-    for (i, byte) in memory[..size.div_ceil(8)].iter_mut().enumerate() {
-        *byte = low_cleared(*byte, size - 8 * i);
+    let i = size / 8;
+    memory[..i].fill(0);
+    if 8 * i < size {
+        memory[i] = low_cleared(memory[i], size - 8 * i);
     }
 }
 
@@ -90,6 +92,10 @@ impl<'a> Bitmap<'a> {
     fn first_in(&self) -> Option<u16>
         ensures { MatchOption result ((k : ℕ) → k < self.now.size → bit_at self.now.memory.now k ≡ true) (λ u. (u < self.now.size) × (bit_at self.now.memory.now u ≡ false) × ((k : ℕ) → k < u → bit_at self.now.memory.now k ≡ true)) }
     {
+        // where it is in, the unit at the hint is the lowest
+        if self.hint < self.size && !bit(self.memory, usize::from(self.hint)) {
+            return Some(self.hint);
+        }
         let from = usize::from(self.hint / 8);
         let end = usize::from(self.size).div_ceil(8);
         let i = from + first_not_full(&self.memory[from..end])?;
