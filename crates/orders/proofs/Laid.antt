@@ -1,6 +1,6 @@
 -- Bytes written over what was there, one part after the other, and what is before and behind them.
-use Rattle.std.proofs.Common.{◌≡◌, ℕ, suc, ◌+◌, ◌≤◌, List, [], ◌∷◌, ◌++◌, length, take, drop, set, sym, ap, ◌∙◌, add-zero, arith, length-set}
-use Rattle.std.proofs.lemmas.List.{take-append-drop, take_more_set, drop-set-lt, append_assoc, drop-drop}
+use Rattle.std.proofs.Common.{◌≡◌, ℕ, suc, ◌+◌, ◌-◌, ◌≤◌, List, [], ◌∷◌, ◌++◌, length, take, drop, set, sym, ap, ◌∙◌, add-zero, arith, length-set, append-nil}
+use Rattle.std.proofs.lemmas.List.{take-append-drop, take_more_set, drop-set-lt, append_assoc, drop-drop, drop_all}
 use Rattle.orders.specs.Layout.{laid}
 
 pub laid_++ : (out : List ℕ) (at : ℕ) (xs ys : List ℕ) → laid out at (xs ++ ys) ≡ laid (laid out at xs) (at + length xs) ys
@@ -21,3 +21,8 @@ laid_between out at (b ∷ bs) h =
     ∙ sym (append_assoc (take at out) (b ∷ []) (bs ++ drop (length bs) (drop (at + 1) (set out at b))))
     ∙ ap (λ l. l ++ (bs ++ drop (length bs) (drop (at + 1) (set out at b)))) (sym front)
     ∙ laid_between (set out at b) (at + 1) bs (omega (arith, length-set out at b))
+
+-- the first byte, then all that is behind it
+pub first_then : (out bs : List ℕ) (b : ℕ) → length out ≡ suc (length bs) → take 1 (set out 0 b) ++ (bs ++ drop (length (set out 0 b) - 1) (drop 1 (set out 0 b))) ≡ b ∷ bs
+first_then [] bs b h = absurd (omega (arith, h))
+first_then (x ∷ xs) bs b h = ap (λ l. b ∷ (bs ++ l)) (drop_all (length (x ∷ xs) - 1) xs (omega arith)) ∙ ap (λ l. b ∷ l) (append-nil bs)

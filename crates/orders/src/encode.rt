@@ -71,6 +71,7 @@ impl Answer {
     }
 
     // Writes the answer over all of the bytes.
+    #[tactic(auto, using(crate::proofs::Laid::first_then))]
     fn fill(&self, room: &mut [u8])
         requires { length room.old ≡ length (answer_bytes self.now) }
         ensures { room.new ≡ answer_bytes self.now }
@@ -84,7 +85,9 @@ impl Answer {
             Answer::Told(figures) => fill_told(room, figures),
             Answer::Stopped { number, place } => {
                 let [high, low] = place.to_be_bytes();
-                room.copy_from_slice(&[0x83, number, high, low]);
+                // The kind is written apart: a copy of four bytes becomes one number, and that costs more.
+                room[0] = 0x83;
+                room[1..].copy_from_slice(&[number, high, low]);
             }
         }
     }
