@@ -1,7 +1,7 @@
 -- A volume cut to fewer records, or given more.
-use Rattle.std.proofs.Common.{◌≡◌, ℕ, zero, suc, ◌+◌, ◌-◌, ◌^◌, ◌<◌, ◌≤◌, Bool, true, false, cond, List, [], ◌∷◌, ◌++◌, length, get_or, take, drop, set, replicate, None, Ok, Err, sum, Result, sym, refl, ap, ◌∙◌, subst, inl, inr, add-zero, add-one, arith}
+use Rattle.std.proofs.Common.{◌≡◌, ℕ, zero, suc, ◌+◌, ◌-◌, ◌^◌, ◌<◌, ◌≤◌, Bool, true, false, cond, List, [], ◌∷◌, ◌++◌, length, get_or, take, drop, set, replicate, max, None, Ok, Err, sum, Result, sym, refl, ap, ◌∙◌, subst, inl, inr, add-zero, add-one, arith}
 use borrow.Rule.Slice.PartMut.{mid_of, post_of, mid_len}
-use Rattle.std.proofs.lemmas.List.{length-set, length-append, length-take, length-drop, length-replicate, append-nil, take_all, drop_all, get_or-set_other, get_or-take, get_or-drop, get_or-replicate, get_or_append_left, get_or-append_right, drop-set-lt, ext_get_or}
+use Rattle.std.proofs.lemmas.List.{length-set, length-append, length-take, length-drop, length-replicate, replicate-append-replicate, get_or-set_other, get_or-take, get_or-drop, get_or-replicate, get_or_append_left, get_or-append_right, drop-set-lt, ext_get_or}
 use Rattle.std.proofs.lemmas.List.Sums.{sum_by-cons, sum_by-drop_more, sum_by-take-drop}
 use Rattle.std.proofs.lemmas.Bool.{cases_lt}
 use Rattle.orders.specs.declared.answer.Answer.{Answer}
@@ -61,21 +61,25 @@ none-sum : (xs : List ℕ) → ((i : ℕ) → get_or xs i 0 ≡ 0) → sum xs �
 none-sum [] none = refl
 none-sum (x ∷ xs) none = omega (arith, sum_by-cons (λ (n : ℕ). n) x xs, none 0, none-sum xs (λ i. none (suc i)))
 
-past-sum : (c : Contents) (n : ℕ) → ShapedContents c → c.records ≤ n → sum (drop n c.units) ≡ 0
+pub past-sum : (c : Contents) (n : ℕ) → ShapedContents c → c.records ≤ n → sum (drop n c.units) ≡ 0
 past-sum c n s le = none-sum (drop n c.units) (λ i. get_or-drop n c.units i 0 ∙ s.past_the_end (n + i) (omega arith))
 
 contents_eq : {name name' us us' : List ℕ} {n d d' : ℕ} → name ≡ name' → us ≡ us' → d ≡ d' →
     ◌≡◌ {A = Contents} (record { name = name; records = n; units = us; deferred = d }) (record { name = name'; records = n; units = us'; deferred = d' })
 contents_eq e f g = cc
 
--- a cut by slices: m is n as an index, and ys what the records from there on are then
-module _ (c : Contents) (s : ShapedContents c) (n : ℕ) (few : n ≤ 64) (m : ℕ) (index : m ≡ n) where
-  pub cut_units : sum (mid_of m (64 - m) c.units) ≡ sum (drop n c.units)
-  cut_units =
-      ap sum (take_all (64 - m) (drop m c.units) (omega (arith, length-drop m c.units, s.units_long)))
-      ∙ ap (λ (k : ℕ). sum (drop k c.units)) index
+-- a cut by slices: m is n as an index, e the slice's end, past which there are no units, and ys what the records from n up to there are then
+module _ (c : Contents) (s : ShapedContents c) (n : ℕ) (few : n ≤ 64) (m : ℕ) (index : m ≡ n) (e : ℕ) (end : e ≡ max c.records n) where
+  none_past : (i : ℕ) → get_or (post_of m (e - m) c.units) i 0 ≡ 0
+  none_past i =
+      get_or-drop (e - m) (drop m c.units) i 0 ∙ get_or-drop m c.units ((e - m) + i) 0 ∙ s.past_the_end (m + ((e - m) + i)) (omega arith)
 
-  pub cut_few : sum (mid_of m (64 - m) c.units) ≤ sum c.units
+  pub cut_units : sum (mid_of m (e - m) c.units) ≡ sum (drop n c.units)
+  cut_units =
+      let parts : sum (drop m c.units) ≡ sum (mid_of m (e - m) c.units) + sum (post_of m (e - m) c.units) = omega (arith, sum_by-take-drop (λ (x : ℕ). x) (drop m c.units) (e - m)) in
+      omega (arith, parts, none-sum (post_of m (e - m) c.units) none_past, ap (λ (k : ℕ). sum (drop k c.units)) index)
+
+  pub cut_few : sum (mid_of m (e - m) c.units) ≤ sum c.units
   cut_few = omega (arith, cut_units, sum_by-take-drop (λ (x : ℕ). x) c.units n)
 
   emptied-units : (emptied_from n (c.records - n) c).units ≡ take n c.units ++ replicate (64 - n) 0
@@ -98,16 +102,31 @@ module _ (c : Contents) (s : ShapedContents c) (n : ℕ) (few : n ≤ 64) (m : �
   emptied-deferred =
       omega (arith, moved_sum (c.records - n) n c (cut-fits c n s few), past-sum c (n + (c.records - n)) s (omega arith))
 
-  pub cut_resized : (ys : List ℕ) (d : ℕ) → ys ≡ replicate (length (mid_of m (64 - m) c.units)) 0 → d ≡ sum (mid_of m (64 - m) c.units) →
-      ◌≡◌ {A = Contents} (record { name = c.name; records = n; units = take m c.units ++ (ys ++ post_of m (64 - m) c.units); deferred = c.deferred + d })
+  rest-empty : post_of m (e - m) c.units ≡ replicate (64 - e) 0
+  rest-empty =
+      let long : length (post_of m (e - m) c.units) ≡ 64 - e = omega (arith, length-drop (e - m) (drop m c.units), length-drop m c.units, s.units_long) in
+      ext_get_or 0 (post_of m (e - m) c.units) (replicate (64 - e) 0) (long ∙ sym (length-replicate {A = ℕ} (64 - e) 0))
+      (λ i l. none_past i ∙ sym (get_or-replicate (64 - e) i 0 0 (omega (arith, long))))
+
+  cut-long : length (mid_of m (e - m) c.units) ≡ e - m
+  cut-long = mid_len m e c.units (omega (arith, s.units_long, s.records_few))
+
+  both-long : (e - m) + (64 - e) ≡ 64 - m
+  both-long = omega (arith, s.records_few)
+
+  all-empty : (ys : List ℕ) → ys ≡ replicate (length (mid_of m (e - m) c.units)) 0 → ys ++ post_of m (e - m) c.units ≡ replicate (64 - m) 0
+  all-empty ys empty =
+      ap (λ (zs : List ℕ). ys ++ zs) rest-empty
+      ∙ ap (λ (zs : List ℕ). zs ++ replicate (64 - e) 0) (empty ∙ ap (λ (k : ℕ). replicate k 0) cut-long)
+      ∙ replicate-append-replicate (e - m) (64 - e) 0 ∙ ap (λ (k : ℕ). replicate k 0) both-long
+
+  pub cut_resized : (ys : List ℕ) (d : ℕ) → ys ≡ replicate (length (mid_of m (e - m) c.units)) 0 → d ≡ sum (mid_of m (e - m) c.units) →
+      ◌≡◌ {A = Contents} (record { name = c.name; records = n; units = take m c.units ++ (ys ++ post_of m (e - m) c.units); deferred = c.deferred + d })
       (resized c n)
   cut_resized ys d empty is =
-      let none : post_of m (64 - m) c.units ≡ [] = drop_all (64 - m) (drop m c.units) (omega (arith, length-drop m c.units, s.units_long)) in
-      let long : length (mid_of m (64 - m) c.units) ≡ 64 - m = mid_len m 64 c.units (omega (arith, s.units_long)) in
-      let past : ys ++ post_of m (64 - m) c.units ≡ replicate (64 - m) 0 =
-      ap (λ (zs : List ℕ). ys ++ zs) none ∙ append-nil ys ∙ empty ∙ ap (λ (k : ℕ). replicate k 0) long in
       contents_eq (sym (name-emptied_from (c.records - n) n c))
-      (ap (λ (zs : List ℕ). take m c.units ++ zs) past ∙ ap (λ (k : ℕ). take k c.units ++ replicate (64 - k) 0) index ∙ sym emptied-units)
+      (ap (λ (zs : List ℕ). take m c.units ++ zs) (all-empty ys empty)
+      ∙ ap (λ (k : ℕ). take k c.units ++ replicate (64 - k) 0) index ∙ sym emptied-units)
       (omega (arith, emptied-deferred, is, cut_units))
 
 records_by : (q : Bool) (n : ℕ) (a : Answer) →

@@ -1,5 +1,6 @@
 -- The figures of a dataset.
-use Rattle.std.proofs.Common.{◌≡◌, ℕ, ◌^◌, ◌<◌, Bool, true, false, cond, ltb, List, length, None, Ok, Err, sum_by, sum, Result, sym, refl, ap, ◌∙◌, arith}
+use Rattle.std.proofs.Common.{◌≡◌, ℕ, ◌^◌, ◌<◌, ◌≤◌, Bool, true, false, cond, ltb, List, length, take, None, Ok, Err, sum_by, sum, Result, sym, refl, ap, ◌∙◌, subst, arith}
+use Rattle.std.proofs.lemmas.List.Sums.{sum_by-take-drop}
 use Rattle.std.proofs.lemmas.Bool.{ltb-true, cond-true}
 use Rattle.orders.specs.declared.answer.Answer.{Answer}
 use Rattle.orders.specs.declared.answer.Answer.TheVariants.{Refused, Told}
@@ -9,6 +10,7 @@ use Rattle.charges.specs.Tree.{charge as charge_in}
 use Rattle.rules.specs.declared.state.Contents.{Contents}
 use Rattle.rules.specs.Book.{dataset, made, charge}
 use Rattle.rules.specs.Answers.{refused_by_tree, to_tell, answer}
+use Rattle.rules.specs.Invariant.{ShapedContents}
 use Rattle.tree.specs.declared.fault.TreeFault.{TreeFault}
 use Rattle.tree.specs.declared.fault.TreeFault.TheVariants.{Missing}
 use Rattle.tree.specs.Parts.{rows_of}
@@ -22,7 +24,8 @@ use Rattle.tally.specs.Parts.{book_of, figures_of, Did}
 use Rattle.tally.proofs.Asks.{ok_not_err}
 use Rattle.tally.proofs.Bounds.{contents-is, held-few, own-few}
 use Rattle.tally.proofs.Costs.{grants_by}
-use Rattle.tally.proofs.Sounds.{made-is, rows_are, refused_did}
+use Rattle.tally.proofs.Cuts.{past-sum}
+use Rattle.tally.proofs.Sounds.{made-is, rows_are, shaped, refused_did}
 
 abbrev shown : Contents → ℕ → ℕ → Answer
 shown x n g = Told (record { name = x.name; charge = n; record_units = sum x.units; deferred_units = x.deferred; unspent_grants = g })
@@ -57,8 +60,20 @@ module _ (t : Tally) (d : ℕ) where
     pub told_listed : d < length (rows_of t.tree)
     told_listed = ltb-true d (length (rows_of t.tree)) (exists_then (ltb d (length (rows_of t.tree))) d (charge_in (rows_of t.tree) d) k e).0
 
-    pub told_units : sum (contents_at t.contents d).units < 2 ^ 16
-    told_units = omega (arith, held-few t d told_listed, t.sized)
+    told_shaped : ShapedContents (contents_at t.contents d)
+    told_shaped = subst ShapedContents (contents-is t d told_listed) ((shaped t (λ s. 0)).datasets d).contents
+
+    pub told_few : (contents_at t.contents d).records ≤ 64
+    told_few = told_shaped.records_few
+
+    -- the records are all that have units
+    pub told_records : sum (take (contents_at t.contents d).records (contents_at t.contents d).units) ≡ sum (contents_at t.contents d).units
+    told_records =
+        let c = contents_at t.contents d in
+        omega (arith, sum_by-take-drop (λ (x : ℕ). x) c.units c.records, past-sum c c.records told_shaped (omega arith))
+
+    pub told_units : sum (take (contents_at t.contents d).records (contents_at t.contents d).units) < 2 ^ 16
+    told_units = omega (arith, told_records, held-few t d told_listed, t.sized)
 
     pub told_grants : sum_by (grant_by t.worst d) t.transactions < 2 ^ 16
     told_grants =

@@ -19,12 +19,13 @@ pub(crate) fn total(units: &[u16]) -> u16
 }
 
 impl Tally {
-    // What a transaction has of unspent grants on a volume.
+    // What a transaction has of unspent grants on a volume. The estimate is made for each transaction, so that a sum over all has no branch.
     fn grant(&self, state: Transaction, volume: u8) -> u16
         ensures { result ≡ grant_by self.now.worst volume state }
     {
+        let units = self.estimate(state);
         match state {
-            Transaction::Assigned { volume: on, .. } if on == volume => self.estimate(state),
+            Transaction::Assigned { volume: on, .. } if on == volume => units,
             _ => 0,
         }
     }
@@ -46,10 +47,11 @@ impl Tally {
     {
         let charge = self.tree.charge(d)?;
         let contents = &self.contents[usize::from(d)];
+        // The records alone: the units past them are 0.
         Ok(Figures {
             name: contents.name,
             charge,
-            record_units: total(&contents.units),
+            record_units: total(&contents.units[..usize::from(contents.records)]),
             deferred_units: contents.deferred,
             unspent_grants: self.grants(d),
         })

@@ -64,7 +64,8 @@ fn cut(contents: &mut Contents, records: u8) -> u16
     ensures units { result ≡ sum (drop records contents.old.units) }
     ensures after { contents.new ≡ resized_contents contents.old records }
 {
-    let past_end = &mut contents.units[usize::from(records)..];
+    let end = contents.records.max(records);
+    let past_end = &mut contents.units[usize::from(records)..usize::from(end)];
     let units = total(past_end);
     past_end.fill(0);
     contents.records = records;
