@@ -47,13 +47,13 @@ fresh-linked n hs next first d long wide heads none firsts e =
 -- the rows and the lists of a table that is made for n units
 module _ (n : ℕ) (few : n ≤ 4096) where
   abbrev pub made : List Unit
-  made = replicate 4096 (record { holder = Nobody; next = n })
+  made = replicate 4096 (record { holder = Nobody; next = 0 })
 
   pub fresh-rows : take n (holders_in made) ≡ replicate n Nobody
-  fresh-rows = ap (take n) (map-replicate (λ (x : Unit). x.holder) 4096 (record { holder = Nobody; next = n })) ∙ take-replicate n 4096 Nobody few
+  fresh-rows = ap (take n) (map-replicate (λ (x : Unit). x.holder) 4096 (record { holder = Nobody; next = 0 })) ∙ take-replicate n 4096 Nobody few
 
   pub fresh : Linked n (take n (holders_in made)) (nexts_in made) (replicate 4096 n) n
   fresh =
-      rw (fresh-rows, map-replicate (λ (x : Unit). x.next) 4096 (record { holder = Nobody; next = n }))
-      (fresh-linked n (replicate n Nobody) (replicate 4096 n) (replicate 4096 n) n (length-replicate n Nobody) (length-replicate 4096 n) (length-replicate 4096 n)
+      rw (fresh-rows, map-replicate (λ (x : Unit). x.next) 4096 (record { holder = Nobody; next = 0 }))
+      (fresh-linked n (replicate n Nobody) (replicate 4096 0) (replicate 4096 n) n (length-replicate n Nobody) (length-replicate {A = ℕ} 4096 0) (length-replicate 4096 n)
       (λ u. all_same n u Nobody) (λ k b. get_or-replicate 4096 k n 0 b) refl)

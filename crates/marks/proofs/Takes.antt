@@ -1,7 +1,7 @@
 -- Units are taken one by one for a record.
 use Rattle.std.proofs.Common.{◌≡◌, ℕ, ◌+◌, ◌<◌, ◌≤◌, Bool, true, false, cond, ◌&&◌, ltb, leb, List, length, get_or, set, Ok, Err, count_by, sym, refl, ap, ◌∙◌, inl, inr, arith}
 use Rattle.std.proofs.lemmas.List.FromFn.{length-map-range_with_len, get_or-map-range_with_len}
-use Rattle.std.proofs.lemmas.List.{length-set, get_or-set_same, get_or-set_other, ext_get_or}
+use Rattle.std.proofs.lemmas.List.{length-map, length-set, get_or-set_same, get_or-set_other, ext_get_or}
 use Rattle.std.proofs.lemmas.List.Sums.{sum_by-set}
 use Rattle.std.proofs.lemmas.Bool.{cases_eq, true≢false, cond-true, and_from, lt-ltb, le-leb}
 use Rattle.pool.specs.declared.allocator.Allocator.{Ghosts}
@@ -13,8 +13,9 @@ use Rattle.rules.specs.declared.state.Holder.{Holder}
 use Rattle.rules.specs.declared.state.Holder.TheVariants.{Nobody, Record, Deferred}
 use Rattle.marks.specs.declared.fault.MarksFault.TheVariants.{NoSuchRecord, AllOut}
 use Rattle.marks.specs.declared.marks.Marks.{Marks}
+use Rattle.marks.specs.declared.unit.Unit.{Unit}
 use Rattle.marks.specs.Held.{Held}
-use Rattle.marks.specs.Sound.{TookFor, Grew, take_answer, pool_of, holders_of, size_of}
+use Rattle.marks.specs.Sound.{Sound, TookFor, Grew, take_answer, pool_of, holders_of, size_of}
 
 pub nobody : (h : Holder) → is_held h ≡ false → h ≡ Nobody
 nobody Nobody e = refl
@@ -107,6 +108,17 @@ module _ (us vs : List Bool) (hs : List Holder) (u : ℕ) (held : Held us hs) (t
 -- as many units as holders
 pub matching : {A : Type 0} {G : Ghosts A} (m : Marks A G) → length (G.units (pool_of m)) ≡ length (holders_of m)
 matching m = m.sized ∙ sym m.table.linked.long
+
+-- what every value of the marks' type is
+pub marks_sound : {A : Type 0} {G : Ghosts A} (m : Marks A G) → Sound G.units m
+marks_sound m =
+    record {
+      sized = m.sized;
+      long = m.table.linked.long;
+      held = m.held;
+      counted = m.counted;
+      tabled = record { small = m.table.small; whole = sym (length-map m.table.units (λ (u : Unit). u.next)) ∙ m.table.linked.wide; linked = m.table.linked };
+    }
 
 -- what the loop has done
 pub record Taking {A : Type 0} {G : Ghosts A} (v r i : ℕ) (m₀ m : Marks A G) : Type 0 where

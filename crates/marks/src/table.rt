@@ -40,9 +40,10 @@ impl Table {
     {
         Table {
             size,
+            // Nobody has a unit yet, so no list goes through it: `next` says nothing. All zero bytes, it is filled in place.
             units: [Unit {
                 holder: Holder::Nobody,
-                next: size,
+                next: 0,
             }; ENTRIES],
             first: [size; ENTRIES],
             deferred: size,
