@@ -23,6 +23,7 @@ use Rattle.rules.proofs.Journals.{fair-fresh, fair-step}
 use Rattle.rules.proofs.Standings.{standing-fresh, standing-next}
 use Rattle.marks.specs.declared.marks.Marks.{Marks}
 use Rattle.marks.specs.Sound.{pool_of as pool_in, holders_of as holders_in, size_of}
+use Rattle.marks.proofs.Takes.{marks_sound}
 use Rattle.tally.specs.declared.Tally.{Tally}
 use Rattle.tally.specs.Parts.{book_of as book_in, figures_of, Left, Did as TallyDid, Fresh}
 use Rattle.tally.proofs.Sounds.{shaped}
@@ -80,7 +81,7 @@ module _ {A P : Type 0} {gA : AllocatorMembers A} {gP : PolicyMembers P} where
 
   -- all but the journal is in the ledger's type
   pub sound_with : (l : Ledger A P gA gP) (j : List Entry) → Stands (figures l) l j → Sound l
-  sound_with l j s = record { worst_is = worst_is l; size_is = size_is l; sane = sane l; fair = fair l; journal = j; stands = s }
+  sound_with l j s = record { marks_sound = marks_sound l.marks; worst_is = worst_is l; size_is = size_is l; sane = sane l; fair = fair l; journal = j; stands = s }
 
   module _ (l : Ledger A P gA gP) (tally : Tally) (marks : Marks A gA) (policy : P) (m : Meaning) (a : Answer) (did : DidTo l tally marks policy m a) where
     figured : figures_in gP tally policy ≡ figures l
@@ -116,19 +117,24 @@ module _ {A P : Type 0} {gA : AllocatorMembers A} {gP : PolicyMembers P} where
     law F j s =
         subst (λ (G : Figures). Stands G l j → StandsIn gA gP G tally marks policy (entry m a (units_of l) (gA.units (pool_in marks)) ∷ j)) (sym s.figured) (law₀ j) s
 
-    -- the parts are those of a ledger
-    pub kept : ∥ SoundIn gA gP tally marks policy ∥₁
-    kept =
+    -- a sound ledger stays sound, with its journal
+    pub sound' : Sound l → SoundIn gA gP tally marks policy
+    sound' s =
         let us = units_of l in
         let vs = gA.units (pool_in marks) in
-        ∥∥₁_elim l.sound ∥∥₁_prop (λ s. ∣ record {
+        record {
+          marks_sound = marks_sound marks;
           worst_is = did.same.worst ∙ worst_is l ∙ ap gP.worst (sym did.policy_same);
           size_is = did.same.size ∙ size_is l ∙ sym did.size_same;
           sane = subst Sane (sym figured) (sane l);
           fair = subst (λ (F : Figures). Fair F (book_in tally) (holders_in marks) vs) (sym figured) fair';
           journal = entry m a us vs ∷ s.journal;
           stands = subst (λ (F : Figures). StandsIn gA gP F tally marks policy (entry m a us vs ∷ s.journal)) (sym figured) (law₀ s.journal s.stands);
-        } ∣₁)
+        }
+
+    -- the parts are those of a ledger
+    pub kept : ∥ SoundIn gA gP tally marks policy ∥₁
+    kept = ∥∥₁_elim l.sound ∥∥₁_prop (λ s. ∣ sound' s ∣₁)
 
   -- a ledger with the same parts is the same
   unchanged : (l l' : Ledger A P gA gP) → l'.tally ≡ l.tally → l'.marks ≡ l.marks → l'.policy ≡ l.policy → l' ≡ l
@@ -196,8 +202,9 @@ module _ {A P : Type 0} (gA : AllocatorMembers A) (gP : PolicyMembers P) (size s
             (subst (λ (us : List Bool). Standing plan fresh (replicate size Nobody) us []) (sym all_in) (standing-fresh plan sane-plan))));
       }
 
-  pub new-sound : ∥ SoundIn gA gP tally marks policy ∥₁
-  new-sound = ∣ record {
+  pub new-sound : SoundIn gA gP tally marks policy
+  new-sound = record {
+    marks_sound = marks_sound marks;
     worst_is = new.worst_is;
     size_is = new.size_is ∙ sym (length-replicate size false) ∙ sym (ap length all_in) ∙ marks.sized;
     sane = subst Sane (sym planned) sane-plan;
@@ -208,4 +215,4 @@ module _ {A P : Type 0} (gA : AllocatorMembers A) (gP : PolicyMembers P) (size s
         (subst (λ (us : List Bool). Fair plan fresh (replicate size Nobody) us) (sym all_in) (fair-fresh plan sane-plan))));
     journal = [];
     stands = new-stands;
-  } ∣₁
+  }

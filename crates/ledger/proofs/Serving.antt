@@ -15,11 +15,12 @@ use Rattle.rules.specs.Journal.{Entry, book_after}
 use Rattle.rules.specs.Standing.{entry}
 use Rattle.rules.specs.Served.{Exchange, exchange, served, book_then, answers_of, exchanges}
 use Rattle.ledger.specs.declared.Ledger.{Ledger}
-use Rattle.ledger.specs.Parts.{book_of, units_of, lent_of, figures, Stands, Untouched}
+use Rattle.ledger.specs.Parts.{book_of, units_of, lent_of, figures, Stands, Sound, Untouched}
 use Rattle.ledger.specs.declared.fault.MakeFault.{MakeFault}
 use Rattle.ledger.specs.declared.fault.ServeFault.{ServeFault}
 use Rattle.ledger.specs.declared.fault.ServeFault.TheVariants.{FewPlaces}
 use Rattle.ledger.specs.Makes.{Made}
+use Rattle.ledger.proofs.Laws.{sound_with}
 use Rattle.ledger.specs.Serves.{Changeless, AllChangeless, Through, AllServed, planned, made_or}
 
 pub then_push : (F : Figures) (b : Book) (xs : List Exchange) (x : Exchange) → book_then F b (xs ++ x ∷ []) ≡ book_after F (book_then F b xs) x.order x.answer
@@ -74,6 +75,12 @@ module _ {A P : Type 0} {gA : AllocatorMembers A} {gP : PolicyMembers P} where
         untouched = λ h. still l l' a (last xs (exchange m a) h) untouched ∙ t.untouched (front xs (exchange m a) h);
         lent = lent ∙ t.lent;
       }
+
+  -- a sound ledger stays sound, with its journal
+  pub through-sound : (l₀ l : Ledger A P gA gP) (xs : List Exchange) → Through l₀ l xs → Sound l₀ → Sound l
+  through-sound l₀ l xs t s =
+      let grown = t.law (figures l₀) s.journal s.stands in
+      sound_with l (grown.0 ++ s.journal) (subst (λ (G : Figures). Stands G l (grown.0 ++ s.journal)) (sym t.figured) grown.1.0)
 
   -- i of the orders os are obeyed
   pub record Sofar (l₀ l : Ledger A P gA gP) (os : List Order) (places after : List Answer) (i : ℕ) : Type 0 where
@@ -136,8 +143,10 @@ module _ {A P : Type 0} {gA : AllocatorMembers A} {gP : PolicyMembers P} where
       ap (λ (G : Figures). served G (book_of l₁) ms) plan ∙ ap (λ (b : Book). served F b ms) made.book_is in
       let began : Stands F l₁ [] = subst (λ (G : Figures). Stands G l₁ []) plan stands in
       let grown = t.law F [] began in
+      let now : figures l ≡ F = t.figured ∙ plan in
       record {
-        figured = t.figured ∙ plan;
+        sound = sound_with l (grown.0 ++ []) (subst (λ (G : Figures). Stands G l (grown.0 ++ [])) (sym now) grown.1.0);
+        figured = now;
         answered = answered ∙ ap (λ (xs : List Exchange). answers_of xs ++ drop (length os) places) same ∙ ap (λ (n : ℕ). answers_of (served F fresh ms) ++ drop n places) (sym (length-map os meaning));
         booked =
             t.booked ∙ ap (λ (xs : List Exchange). book_then (figures l₁) (book_of l₁) xs) same ∙ ap (λ (G : Figures). book_then G (book_of l₁) (served F fresh ms)) plan

@@ -8,7 +8,7 @@ use Rattle.rules.specs.Journal.{Entry}
 use Rattle.rules.specs.Invariant.{Fair}
 use Rattle.rules.specs.Standing.{Standing}
 use Rattle.marks.specs.declared.marks.Marks.{Marks}
-use Rattle.marks.specs.Sound.{pool_of as pool_in, holders_of as holders_in, size_of}
+use Rattle.marks.specs.Sound.{Sound as MarksSound, pool_of as pool_in, holders_of as holders_in, size_of}
 use Rattle.tally.specs.declared.Tally.{Tally}
 use Rattle.tally.specs.Parts.{book_of as book_in}
 
@@ -22,6 +22,7 @@ pub record StandsIn {A P : Type 0} (gA : AllocatorMembers A) (gP : PolicyMembers
   pub standing : Standing F (book_in tally) (holders_in marks) (gA.units (pool_in marks)) j
 
 pub record SoundIn {A P : Type 0} (gA : AllocatorMembers A) (gP : PolicyMembers P) (tally : Tally) (marks : Marks A gA) (policy : P) : Type 0 where
+  pub marks_sound : MarksSound gA.units marks
   pub worst_is : tally.worst ≡ gP.worst policy
   pub size_is : tally.size ≡ size_of marks
   pub sane : Sane (figures_in gP tally policy)

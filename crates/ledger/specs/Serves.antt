@@ -14,7 +14,7 @@ use Rattle.ledger.specs.declared.fault.MakeFault.{MakeFault}
 use Rattle.ledger.specs.declared.fault.ServeFault.{ServeFault}
 use Rattle.ledger.specs.declared.fault.ServeFault.TheVariants.{NotMade, FewPlaces}
 use Rattle.ledger.specs.declared.serve.Unserved.{Unserved}
-use Rattle.ledger.specs.Parts.{book_of, lent_of, figures, Stands}
+use Rattle.ledger.specs.Parts.{book_of, lent_of, figures, Stands, Sound}
 use Rattle.ledger.specs.Makes.{check_answer}
 
 -- an answer that says that nothing was changed
@@ -53,6 +53,7 @@ serve_answer slop us n m = made_or (check_answer slop us) (cond (nat_le n m) (Ok
 
 -- All orders ms were obeyed, and the answers stand in the first places: the rest of the places is as it was.
 pub record AllServed {A P : Type 0} {gA : AllocatorMembers A} {gP : PolicyMembers P} (F : Figures) (ms : List Meaning) (places after : List Answer) (l : Ledger A P gA gP) : Type 0 where
+  pub sound : Sound l
   pub figured : figures l ≡ F
   pub answered : after ≡ answers_of (served F fresh ms) ++ drop (length ms) places
   pub booked : book_of l ≡ book_then F fresh (served F fresh ms)

@@ -35,6 +35,7 @@ impl<A: Allocator, P: CostPolicy> Ledger<A, P> {
     /// A ledger with the root alone, every transaction idle and every unit in.
     pub fn make(pool: A, policy: P, slop: u16) -> Self
         requires { check_answer slop (A.Allocator.units pool) ≡ Ok tt }
+        ensures sound { Sound result }
         ensures stands { Stands (figures result) result [] }
         ensures made { Made pool policy slop result }
     {

@@ -5,7 +5,7 @@ ghost use Rattle.rules.specs.Answers.{answer};
 ghost use Rattle.rules.specs.Figures.{Figures};
 ghost use Rattle.rules.specs.Journal.{Entry, book_after};
 ghost use Rattle.rules.specs.Standing.{entry};
-ghost use Rattle.ledger.specs.Parts.{book_of, pool_of, units_of, lent_of, figures, Stands, Did, Untouched, PoolKept};
+ghost use Rattle.ledger.specs.Parts.{book_of, pool_of, units_of, lent_of, figures, Sound, Stands, Did, Untouched, PoolKept};
 ghost use Rattle.ledger.specs.Replies.{answer_of};
 
 use super::Ledger;
@@ -78,6 +78,7 @@ impl<A: Allocator, P: CostPolicy> Ledger<A, P> {
     /// Obeys one order. Every journal that stands behind the ledger stands with this order, its answer and the units out before and
     /// after it. A refused order changes nothing, and neither does tell.
     pub fn obey(&mut self, order: Order<'_>) -> Result<Reply, LedgerFault>
+        ensures sound { Sound self.old → Sound self.new }
         ensures law { (F : Figures) (j : List Entry) → Stands F self.old j → Stands F self.new (entry (meaning order.entry) (answer_of result) (units_of self.old) (units_of self.new) ∷ j) }
         ensures answered { answer_of result ≡ answer (figures self.old) (book_of self.old) (meaning order.entry) }
         ensures booked { book_of self.new ≡ book_after (figures self.old) (book_of self.old) (meaning order.entry) (answer_of result) }

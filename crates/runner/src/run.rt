@@ -3,7 +3,7 @@ ghost use Rattle.std.specs.Prelude.{◌≡◌, ◌+◌, ◌≤◌, length, Some}
 ghost use Rattle.orders.specs.Layout.{answer_bytes, laid};
 ghost use Rattle.orders.specs.Meaning.{meaning};
 ghost use Rattle.rules.specs.Served.{bytes_of};
-ghost use Rattle.ledger.specs.Parts.{book_of, figures};
+ghost use Rattle.ledger.specs.Parts.{book_of, figures, Sound};
 ghost use Rattle.ledger.specs.Serves.{Through};
 ghost use Rattle.runner.specs.Faults.{answer_at, AtPlace};
 ghost use Rattle.runner.specs.Runs.{end_of, ended_with, exchanges_in, ran};
@@ -118,6 +118,7 @@ pub fn run<A: Allocator, P: CostPolicy>(
     script: &[u8],
     answers: &mut [u8],
 ) -> Ended
+    ensures sound { Sound ledger.old → Sound ledger.new }
     ensures ended { result ≡ end_of (ran (figures ledger.old) script.now (length answers.old) (book_of ledger.old)) }
     ensures bytes { answers.new ≡ laid answers.old 0 (bytes_of (exchanges_in (ran (figures ledger.old) script.now (length answers.old) (book_of ledger.old)))) }
     ensures within { result.written ≤ length answers.old }

@@ -20,8 +20,21 @@ invariant_of-result g c =
     let nobody = m.holders ∙ ap (λ (n : ℕ). replicate n Nobody) (sym e) in
     let all_in = ap U m.kept ∙ b.all_in ∙ ap (λ (n : ℕ). replicate n false) (sym e) in
     record {
-      sound = laws.new-sound g.A.Allocator g.P.CostPolicy size c.args.slop c.make.result c.make-2.result c.args.policy (omega arith) (omega arith) (omega arith) new nobody all_in;
+      sound = ∣ laws.new-sound g.A.Allocator g.P.CostPolicy size c.args.slop c.make.result c.make-2.result c.args.policy (omega arith) (omega arith) (omega arith) new nobody all_in ∣₁;
     }
+
+pub returns-clause-sound : goal.returns-clause-sound
+returns-clause-sound g c =
+    let U = g.A.Allocator.units in
+    let b = checked c.args.slop (U c.args.pool) c.requires in
+    let s = g.A.Allocator.sized c.args.pool in
+    let size = c.size-size.result in
+    let e = c.size-size.ensures in
+    let m = c.make-2.ensures in
+    let new = subst (λ (w : ℕ). Fresh size c.args.slop w c.make.result) c.worst-worst.ensures c.make.ensures in
+    let nobody = m.holders ∙ ap (λ (n : ℕ). replicate n Nobody) (sym e) in
+    let all_in = ap U m.kept ∙ b.all_in ∙ ap (λ (n : ℕ). replicate n false) (sym e) in
+    laws.new-sound g.A.Allocator g.P.CostPolicy size c.args.slop c.make.result c.make-2.result c.args.policy (omega arith) (omega arith) (omega arith) new nobody all_in
 
 pub returns-clause-stands : goal.returns-clause-stands
 returns-clause-stands g c =
