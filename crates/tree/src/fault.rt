@@ -1,6 +1,6 @@
 // Why the tree refuses, as an enum and in numbers.
 ghost use Rattle.std.specs.Prelude.{◌≡◌};
-ghost use Rattle.tree.specs.Faults.{refusal_of, tree_refusal};
+ghost use Rattle.tree.specs.Faults.{limit_fault, refusal_of, tree_refusal};
 
 use orders::answer::{Layer, Refusal};
 
@@ -55,5 +55,15 @@ fn tree_refusal(number: u8, item: u8, amount: u16) -> Refusal
         layer: Layer::Tree,
         item,
         amount,
+    }
+}
+
+/// A failed walk, a dataset and its shortfall, as a fault.
+impl From<(u8, u16)> for TreeFault {
+    ghost from_gives = { λ walked fault. fault ≡ limit_fault walked };
+
+    fn from(walked: (u8, u16)) -> TreeFault {
+        let (dataset, shortfall) = walked;
+        TreeFault::LimitPassed { dataset, shortfall }
     }
 }

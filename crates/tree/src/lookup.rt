@@ -111,10 +111,7 @@ impl Tree {
         ensures { result ≡ if_granted (walk_in (room_of self.now) (rows_of self.now) first.dataset first.change) (Ok tt) }
     {
         match self.climb(first) {
-            Some((dataset, shortfall)) => Err(TreeFault::LimitPassed {
-                dataset,
-                shortfall: shortfall as u16,
-            }),
+            Some((dataset, shortfall)) => Err(TreeFault::from((dataset, shortfall as u16))),
             None => Ok(()),
         }
     }
